@@ -1,3 +1,6 @@
 pub mod Refusals
+pub mod Bytes
 pub mod Config
+pub mod Settings
 pub mod Ports
+pub mod Examples

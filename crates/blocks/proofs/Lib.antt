@@ -1,0 +1,5 @@
+pub mod Arithmetic
+pub mod BigEndian
+pub mod Found
+pub mod Limits
+pub mod SettingsBack

@@ -1,0 +1,7 @@
+-- A block has ports.
+use native.Mathlib.Omega.{arith}
+use Rattle.blocks.proofs.Limits.{known}
+use Rattle.blocks.proofs.settings.Settings.blocks.Needs as need
+
+pub div-result : need.div-result
+div-result c = omega (arith, known (c .args .self .now) .smallest)
