@@ -1,0 +1,3 @@
+// What people read and write: numbers, addresses, questions and answers as text.
+pub mod address;
+pub mod number;
