@@ -1,12 +1,13 @@
 -- Texts with a separator: what stands before it, and what behind.
 use mathlib.Core.Path.{_≡_, refl, sym, ap, subst, _∙_}
 use mathlib.Core.List.{List, [], _∷_, _++_}
-use Prim.Native.Nat.{ℕ, suc, _<_}
+use Prim.Native.Nat.{ℕ, zero, suc, _<_}
 use native.Mathlib.Omega.{arith}
 use denote.Ref.{RefT, now}
-use lib.ListN.{length, getD}
+use lib.ListN.{length, getD, drop}
 use Rattle.std.specs.declared.option.Option.{Option}
 use Rattle.std.specs.declared.option.Option.the-variants.{Some, None}
+use Rattle.std.proofs.shelf.Lists.{drop-at}
 use Rattle.std.proofs.shelf.Patterns.{SplitAt, split-after, split-parts}
 use Rattle.text.specs.Reading.{ReadsAs, ReadsBefore}
 
@@ -26,8 +27,16 @@ module _ {A : Type 0} (show : A → List ℕ) (within : A → Type 0) (sep : ℕ
   pub read-before : (bs : List ℕ) (front rest : RefT (List ℕ)) (x : A) → SplitAt sep bs (Some (front, rest)) → ReadsAs show within (now front) (Some x) → ReadsBefore show within sep bs (Some (x, rest))
   read-before bs front rest x h is = (is .0, split-parts sep bs (Some (front, rest)) h ascii .0 ∙ ap (λ f. f ++ (sep ∷ now rest)) (is .1))
 
+pub lacks-cons : (sep x : ℕ) (xs : List ℕ) → (x ≡ sep → ⊥) → Lacks sep xs → Lacks sep (x ∷ xs)
+lacks-cons sep x xs other h zero inside e = other e
+lacks-cons sep x xs other h (suc i) inside e = h i (omega arith) e
+
 lacks-rest : (sep x : ℕ) (xs : List ℕ) → Lacks sep (x ∷ xs) → Lacks sep xs
 lacks-rest sep x xs h i inside = h (suc i) (omega arith)
+
+pub lacks-append : (sep : ℕ) (xs ys : List ℕ) → Lacks sep xs → Lacks sep ys → Lacks sep (xs ++ ys)
+lacks-append sep [] ys p q = q
+lacks-append sep (x ∷ xs) ys p q = lacks-cons sep x (xs ++ ys) (p 0 (omega arith)) (lacks-append sep xs ys (lacks-rest sep x xs p) q)
 
 lacks-first : {X : Type 0} (sep x : ℕ) (xs : List ℕ) → Lacks sep (x ∷ xs) → x ≡ sep → X
 lacks-first sep x xs h e = absurd (h 0 (omega arith) e)
@@ -42,3 +51,8 @@ split-once-only sep (x ∷ f) (y ∷ g) xs ys p q e =
     let rest : f ++ (sep ∷ xs) ≡ g ++ (sep ∷ ys) = cc in
     let more = split-once-only sep f g xs ys (lacks-rest sep x f p) (lacks-rest sep y g q) rest in
     ((λ i. first i ∷ more .0 i), more .1)
+
+-- a word in front is cut off, and what is left is what stood behind it
+pub behind-word : (word bs rest : List ℕ) (n : ℕ) → n ≡ length word → bs ≡ word ++ drop n bs → rest ≡ drop n bs → (bs ≡ word ++ rest) × ((xs : List ℕ) → bs ≡ word ++ xs → rest ≡ xs)
+behind-word word bs rest n long whole cut =
+    (whole ∙ ap (λ r. word ++ r) (sym cut), λ xs e. cut ∙ ap (drop n) e ∙ drop-at word xs n (sym long))

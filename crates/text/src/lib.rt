@@ -1,3 +1,4 @@
 // What people read and write: numbers, addresses, questions and answers as text.
 pub mod address;
 pub mod number;
+pub mod question;
