@@ -5,6 +5,7 @@ ghost use Rattle.text.specs.Reading.{ReadsAs};
 use crate::address::address;
 use crate::number::number;
 use crate::number::number_before;
+use std::str::from_utf8;
 
 // When somebody is asked for: after so many events, or in a tick.
 #[derive(Clone, Copy, Debug, PartialEq, Eq)]
@@ -66,5 +67,15 @@ impl Question {
             return None;
         };
         Some(Question { address, port: port as u16, when })
+    }
+
+    // The same for a line of bytes, which may be no text at all.
+    pub fn from_line(line: &[u8]) -> Option<Question>
+        ensures { λ r. ⌜ ReadsAs asked Askable (now (line .entry)) r ⌝ }
+    {
+        let Ok(text) = from_utf8(line) else {
+            return None;
+        };
+        Question::read(text)
     }
 }
