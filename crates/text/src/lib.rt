@@ -3,3 +3,4 @@ pub mod address;
 pub mod lines;
 pub mod number;
 pub mod question;
+pub mod report;
