@@ -1,0 +1,2 @@
+// The whole gateway on input records.
+pub mod gateway;
