@@ -57,6 +57,11 @@ packet-bytes bs small h =
     ∙ ap (λ front. front ++ body) (sym (four bs (omega arith)))
     ∙ sym (take-add 4 n bs)
 
+-- a record takes some bytes
+pub found-some : (bs : List ℕ) {item : Item} {n : ℕ} → front bs ≡ Found item n → 0 < n
+found-some bs {item} {n} h =
+    ⊎-elim (λ t. omega (arith, t .2)) (λ t. omega (arith, t .2)) (ways (eqb (length bs) 0) (eqb (getD bs 0 0) 2) (isWholePacket bs) _ _ item n h .1)
+
 -- a record's bytes are those that it takes
 pub record Taken (bs : List ℕ) (item : Item) (n : ℕ) : Type 0 where
   pub bytes : itemBytes item ≡ take n bs
@@ -70,12 +75,12 @@ takes bs small item n h =
     ⊎-elim
     (λ t. record {
       bytes = ap itemBytes (sym (t .1)) ∙ tick-bytes bs some (eqb-true (getD bs 0 0) 2 (t .0)) ∙ ap (λ k. take k bs) (t .2);
-      some = omega (arith, t .2);
+      some = found-some bs h;
       within = omega (arith, t .2, some);
     })
     (λ t. record {
       bytes = ap itemBytes (sym (t .1)) ∙ packet-bytes bs small (t .0) ∙ ap (λ k. take k bs) (t .2);
-      some = omega (arith, t .2);
+      some = found-some bs h;
       within = omega (arith, t .2, leb-true _ _ (and-parts _ (leb (4 + packetLength bs) (length bs)) (t .0) .1));
     })
     (w .1)

@@ -1,6 +1,7 @@
 -- What a reader answers, in the words of the input's records.
 use mathlib.Core.List.{List}
-use Prim.Native.Nat.{ℕ}
+use mathlib.Core.Path.{_≡_}
+use Prim.Native.Nat.{ℕ, _<_}
 use denote.Ref.{now}
 use Rattle.std.specs.declared.option.Option.{Option}
 use Rattle.std.specs.declared.option.Option.the-variants.{Some, None}
@@ -33,3 +34,9 @@ abbrev pub itemsOf : Result (Option Record) Refusal → Result (Option Item) Ref
 itemsOf (Ok None) = Ok None
 itemsOf (Ok (Some r)) = Ok (Some (itemOf r))
 itemsOf (Err e) = Err e
+
+-- a reader that found a record has gone on, and any other stays where it was
+abbrev pub Advances : Result (Option Record) Refusal → ℕ → ℕ → Type 0
+Advances (Ok None) before after = after ≡ before
+Advances (Ok (Some r)) before after = before < after
+Advances (Err e) before after = after ≡ before

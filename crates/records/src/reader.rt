@@ -1,6 +1,6 @@
 // A reader of the input's records, to its end or its first fault.
 ghost use Prim.Native.Nat.{_+_, _≤_};
-ghost use Rattle.records.specs.Readers.{frontOf, itemsOf, told};
+ghost use Rattle.records.specs.Readers.{Advances, frontOf, itemsOf, told};
 ghost use Rattle.records.specs.Records.{front, frontPacket, taken};
 ghost use denote.Ref.{now};
 ghost use lib.ListN.{drop, length};
@@ -75,6 +75,7 @@ impl<'a> Reader<'a> {
         ensures input { λ r. ⌜ now (now (self .exit) .input) ≡ now (now (self .entry) .input) ⌝ }
         ensures answer { λ r. ⌜ itemsOf r ≡ told (front (drop (now (self .entry) .at) (now (now (self .entry) .input)))) ⌝ }
         ensures stands { λ r. ⌜ now (self .exit) .at ≡ now (self .entry) .at + taken (front (drop (now (self .entry) .at) (now (now (self .entry) .input)))) ⌝ }
+        ensures advances { λ r. ⌜ Advances r (now (self .entry) .at) (now (self .exit) .at) ⌝ }
     {
         let (record, taken) = match record_in(&self.input[self.at..]) {
             Front::End => return Ok(None),

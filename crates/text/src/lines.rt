@@ -1,9 +1,10 @@
 // The lines of a text, one after another, with the place where each begins.
-ghost use Prim.Native.Nat.{_+_, _≤_};
-ghost use Rattle.std.specs.Options.{mapped};
+ghost use Prim.Native.Nat.{_+_, _<_, _≤_};
+ghost use Rattle.std.specs.Options.{isSome, mapped};
 ghost use Rattle.text.specs.Lines.{firstLine, lineIn, lineLength, lineTaken, takenIn};
 ghost use denote.Ref.{now};
 ghost use lib.ListN.{drop, length};
+ghost use mathlib.Core.Bool.{true};
 ghost use mathlib.Core.Path.{_≡_};
 
 fn line_length(text: &[u8]) -> usize
@@ -23,6 +24,7 @@ fn first_line<'a>(text: &'a [u8]) -> Option<(&'a [u8], usize)>
     ensures line { λ r. ⌜ mapped lineIn r ≡ firstLine (now (text .entry)) ⌝ }
     ensures stands { λ r. ⌜ takenIn r ≡ lineTaken (now (text .entry)) ⌝ }
     ensures within { λ r. ⌜ takenIn r ≤ length (now (text .entry)) ⌝ }
+    ensures some { λ r. ⌜ (isSome r ≡ true → 0 < takenIn r) ⌝ }
 {
     if text.is_empty() {
         return None;
@@ -59,6 +61,7 @@ impl<'a> Lines<'a> {
         ensures text { λ r. ⌜ now (now (self .exit) .text) ≡ now (now (self .entry) .text) ⌝ }
         ensures line { λ r. ⌜ mapped now r ≡ firstLine (drop (now (self .entry) .at) (now (now (self .entry) .text))) ⌝ }
         ensures stands { λ r. ⌜ now (self .exit) .at ≡ now (self .entry) .at + lineTaken (drop (now (self .entry) .at) (now (now (self .entry) .text))) ⌝ }
+        ensures advances { λ r. ⌜ (isSome r ≡ true → now (self .entry) .at < now (self .exit) .at) ⌝ }
     {
         let Some((line, taken)) = first_line(&self.text[self.at..]) else {
             return None;
