@@ -1,1 +1,5 @@
 mod Worked
+pub mod Options
+pub mod Firsts
+pub mod Ports
+pub mod Shapes
