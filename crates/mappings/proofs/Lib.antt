@@ -3,3 +3,5 @@ pub mod Options
 pub mod Firsts
 pub mod Ports
 pub mod Shapes
+pub mod Sound
+pub mod Soundness
