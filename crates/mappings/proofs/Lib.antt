@@ -5,3 +5,5 @@ pub mod Ports
 pub mod Shapes
 pub mod Sound
 pub mod Soundness
+pub mod Continued
+pub mod Faces

@@ -96,3 +96,13 @@ faceless c g s i o e p m h l k =
     let own = i .owned p m h in
     let among : List·Memᴰ p (portsOf c s (o .subscriber)) = subst (λ n. List·Memᴰ p (portsOf c s n)) (of-parts o m k .0) (block-port c g s (m .subscriber) p (own .1) (own .2)) in
     true-not-false (sym (is-face c (s .tick) (s .slots) o p m h l k) ∙ first-none (isFace c (s .tick) (s .slots) o) (portsOf c s (o .subscriber)) e p among)
+
+pub face-test : (c : Config) (t : ℕ) (slots : ℕ → Option Mapping) (o : Outward) (p : ℕ) → isFace c t slots o p ≡ true → (m : Mapping) × (slots p ≡ Some m) × (live c t m ≡ true) × (isOf o m ≡ true)
+face-test c t slots o p e = go (slots p) refl e
+  where
+    at : (m : Mapping) → (b : Bool) → (live c t m && isOf o m) ≡ b → isSome (cond b (Some m) None) ≡ true → (live c t m ≡ true) × (isOf o m ≡ true)
+    at m true q k = and-parts (live c t m) (isOf o m) q
+    at m false q k = true-not-false (sym k)
+    go : (v : Option Mapping) → slots p ≡ v → isSome (liveAnd c t (isOf o) v) ≡ true → (m : Mapping) × (slots p ≡ Some m) × (live c t m ≡ true) × (isOf o m ≡ true)
+    go None h k = true-not-false (sym k)
+    go (Some m) h k = let both = at m (live c t m && isOf o m) refl k in (m, h, both .0, both .1)
