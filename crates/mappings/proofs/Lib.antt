@@ -7,3 +7,5 @@ pub mod Sound
 pub mod Soundness
 pub mod Continued
 pub mod Faces
+pub mod Lines
+pub mod Replay

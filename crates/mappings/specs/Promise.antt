@@ -9,7 +9,6 @@ use lib.ListN.{length, getD}
 use Rattle.std.specs.declared.option.Option.{Option}
 use Rattle.std.specs.declared.option.Option.the-variants.{Some, None}
 use Rattle.std.specs.Changed.{kept-by}
-use Rattle.std.specs.shelf.Lists.{countBy}
 use Rattle.std.specs.Options.{isSome}
 use Rattle.blocks.specs.Config.{Config, withinLimits, lowestPort}
 use Rattle.blocks.specs.Ports.{blockOf, isFurther}
@@ -173,7 +172,7 @@ isGiving l = elim (l .change) [ Given ↦ true | TakenBack ↦ false ]
 abbrev pub TwoLines : Type 0
 TwoLines =
     (c : Config) → withinLimits c ≡ true → (es : List Event) →
-    length (run c es .book) + countBy isSome (after c es .holders) ≡ countBy isGiving (run c es .book) + countBy isGiving (run c es .book)
+    length (run c es .book) + length (kept-by isSome (after c es .holders)) ≡ length (kept-by isGiving (run c es .book)) + length (kept-by isGiving (run c es .book))
 
 -- every port that a subscriber may use is in use or resting
 abbrev pub AllTaken : Config → State → ℕ → Type 0
