@@ -72,7 +72,7 @@ face-used c w es r p m o e l k =
         ∙ cond-true (ltb (o .subscriber) (c .subscribers)) (byFace c o s (faceOf c o s)) (only (Refused NoSubscriber) s) (lt-ltb (o .subscriber) (c .subscribers) one)
         ∙ ap (byFace c o s) (face-found c (good c w) s i o p m e l k))
 
-put-same : (slots : ℕ → Option Mapping) (p : ℕ) (v : Option Mapping) (q : ℕ) → q ≡ p → put slots p v q ≡ v
+pub put-same : (slots : ℕ → Option Mapping) (p : ℕ) (v : Option Mapping) (q : ℕ) → q ≡ p → put slots p v q ≡ v
 put-same slots p v q e = cond-true (eqb q p) v (slots q) (eq-eqb q p e)
 
 pub put-other : (slots : ℕ → Option Mapping) (p : ℕ) (v : Option Mapping) (q : ℕ) → (q ≡ p → ⊥) → put slots p v q ≡ slots q

@@ -9,3 +9,5 @@ pub mod Continued
 pub mod Faces
 pub mod Lines
 pub mod Replay
+pub mod Moments
+pub mod Tracing
