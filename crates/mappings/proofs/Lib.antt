@@ -11,3 +11,4 @@ pub mod Lines
 pub mod Replay
 pub mod Moments
 pub mod Tracing
+pub mod TracingByTick
