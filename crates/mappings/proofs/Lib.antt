@@ -11,4 +11,5 @@ pub mod Lines
 pub mod Replay
 pub mod Moments
 pub mod Tracing
+pub mod Givings
 pub mod TracingByTick
