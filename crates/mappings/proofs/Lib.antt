@@ -13,3 +13,4 @@ pub mod Moments
 pub mod Tracing
 pub mod Givings
 pub mod TracingByTick
+pub mod Answers
