@@ -139,3 +139,66 @@ run-backed c past s b (e ∷ es) =
 
 backed : (c : Config) (es : List Event) → Backed (transcriptFrom c (fresh c) es) (after c es)
 backed c es = run-backed c [] (fresh c) (record { sent = λ p m a h i. none-not-some h }) es
+
+-- what is delivered was known to the mapping
+delivered-known : (c : Config) (s : State) {e : Event} {r : Step} → Shape c s e r → (n q : ℕ) → r .verdict ≡ Delivered n q →
+    (i : Inward) × (m : Mapping) × (inwardOf e ≡ Some i) × Known c s i m × (m .subscriber ≡ n) × (m .port ≡ q)
+delivered-known c s (refuses r) n q v = clash (cc)
+delivered-known c s stops n q v = clash (cc)
+delivered-known c s (delivers i m a k) n q v =
+    let x : m .subscriber ≡ n = cc in
+    let y : m .port ≡ q = cc in
+    (i, m, a, k, x, y)
+delivered-known c s (errs o p m a f k) n q v = clash (cc)
+delivered-known c s (again o p m a f) n q v = clash (cc)
+delivered-known c s (makes o p f e) n q v = clash (cc)
+delivered-known c s (gives o b f a e) n q v = clash (cc)
+delivered-known c s (ticks a) n q v = clash (cc)
+
+-- an earlier packet of a run is found in the whole run's transcript
+found-before : (c : Config) (es : List Event) (x : Occurrence) (h : Happened c (fresh c) es x) (p : ℕ) (o : Outward) → Was (transcriptFrom c (fresh c) (h .before)) (after c (h .before) .moment) p o →
+    (y : Occurrence) × List·Memᴰ y (transcriptFrom c (fresh c) es) × SentBefore x p o y
+found-before c es x h p o w =
+    (w .0,
+        subst (λ xs. List·Memᴰ (w .0) xs) (sym (ap (transcriptFrom c (fresh c)) (h .there) ∙ transcript-on c (fresh c) (h .before) (h .event ∷ h .later)))
+            (Memᴰ·append-left (transcriptFrom c (after c (h .before)) (h .event ∷ h .later)) (w .1)),
+        record { earlier = subst (λ (z : Occurrence). w .0 .moment < z .moment) (sym (h .so)) (w .2); went = w .3; port = w .4 })
+
+pub answered : Answered
+answered c w es x n q j v =
+    let h = happened c (fresh c) es x j in
+    let s = after c (h .before) in
+    let d = delivered-known c s (shape c (h .event) s) n q (ap (λ (y : Occurrence). y .verdict) (sym (h .so)) ∙ v) in
+    let i = d .0 in
+    let m = d .1 in
+    let k = d .3 in
+    let was = backed c (h .before) .sent (i .port) m (i .from) (k .there) (k .remembered) in
+    let same = same-packet (packetOf m (i .from)) (record { subscriber = n; protocol = i .protocol; port = q; to = i .from }) (d .4) (same-protocol (m .protocol) (i .protocol) (k .its)) (d .5) refl in
+    let y = found-before c es x h (i .port) (record { subscriber = n; protocol = i .protocol; port = q; to = i .from })
+        (subst (λ o. Was (transcriptFrom c (fresh c) (h .before)) (s .moment) (i .port) o) same was) in
+    (i, ap (λ (z : Occurrence). inwardOf (z .event)) (h .so) ∙ d .2, y .0, y .1, y .2)
+
+-- an error message that goes out was known to the mapping
+error-known : (c : Config) (s : State) {e : Event} {r : Step} → Shape c s e r → (o : Outward) (p : ℕ) → e ≡ ErrorGoes o → r .verdict ≡ Sent p →
+    (m : Mapping) × (s .slots p ≡ Some m) × (packetOf m (o .to) ≡ o) × (isIn (o .to) (m .remembered) ≡ true)
+error-known c s (refuses r) o p a v = clash (cc)
+error-known c s stops o p a v = clash (cc)
+error-known c s (delivers i m b k) o p a v = clash (cc)
+error-known c s (errs q d m b f k) o p a v =
+    let same : q ≡ o = cc in
+    let port : d ≡ p = cc in
+    let its = of-parts q m (f .its) in
+    (m, ap (s .slots) (sym port) ∙ f .there,
+        same-packet (packetOf m (o .to)) q (its .0) (its .1) (its .2) (ap (λ (y : Outward). y .to) (sym same)) ∙ same, ap (λ (y : Outward). isIn (y .to) (m .remembered)) (sym same) ∙ k)
+error-known c s (again q d m b f) o p a v = clash (cc)
+error-known c s (makes q d f e) o p a v = clash (cc)
+error-known c s (gives q b f d e) o p a v = clash (cc)
+error-known c s (ticks b) o p a v = clash (cc)
+
+pub errors-answered : ErrorsAnswered
+errors-answered c w es x o p j a v =
+    let h = happened c (fresh c) es x j in
+    let s = after c (h .before) in
+    let d = error-known c s (shape c (h .event) s) o p (ap (λ (y : Occurrence). y .event) (sym (h .so)) ∙ a) (ap (λ (y : Occurrence). y .verdict) (sym (h .so)) ∙ v) in
+    found-before c es x h p o
+    (subst (λ q. Was (transcriptFrom c (fresh c) (h .before)) (s .moment) p q) (d .2) (backed c (h .before) .sent p (d .0) (o .to) (d .1) (d .3)))

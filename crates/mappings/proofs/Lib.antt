@@ -14,3 +14,5 @@ pub mod Tracing
 pub mod Givings
 pub mod TracingByTick
 pub mod Answers
+pub mod Service
+pub mod Quiet
