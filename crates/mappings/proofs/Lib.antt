@@ -16,3 +16,4 @@ pub mod TracingByTick
 pub mod Answers
 pub mod Service
 pub mod Quiet
+pub mod Alone

@@ -276,7 +276,7 @@ step-sound c g s i (makes o p f e) = makes-sound c g s i o p f e
 step-sound c g s i (gives o b f a e) = gives-sound c g s i o b f e
 step-sound c g s i (ticks a) = tick-sound c g s i
 
-none-there : (n k : ℕ) → getD {A = List ℕ} (replicate n []) k [] ≡ []
+pub none-there : (n k : ℕ) → getD {A = List ℕ} (replicate n []) k [] ≡ []
 none-there zero k = refl
 none-there (suc n) zero = refl
 none-there (suc n) (suc k) = none-there n k
