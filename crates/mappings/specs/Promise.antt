@@ -289,3 +289,27 @@ Alone =
     (c : Config) → withinLimits c ≡ true → (n : ℕ) → n < c .subscribers → (es fs : List Event) → kept-by (concerns c n) es ≡ kept-by (concerns c n) fs →
     after c es .over ≡ false → after c fs .over ≡ false → KeptToFirst c n es →
     (seen c n (run c es .transcript) ≡ seen c n (run c fs .transcript)) × KeptToFirst c n fs
+
+-- All of it together.
+pub record Main : Type 0 where
+  pub one-owner : OneOwner
+  pub one-face : OneFace
+  pub face-used : FaceUsed
+  pub face-stays : FaceStays
+  pub traced : Traced
+  pub held : Held
+  pub lasting : Lasting
+  pub traced-by-tick : TracedByTick
+  pub held-by-tick : HeldByTick
+  pub answered : Answered
+  pub errors-answered : ErrorsAnswered
+  pub short-book : ShortBook
+  pub two-lines : TwoLines
+  pub served : Served
+  pub given-in-need : GivenInNeed
+  pub let-in : LetIn
+  pub refusals : Refusals
+  pub inwards-quiet : InwardsQuiet
+  pub over : Over
+  pub limits : Limits
+  pub alone : Alone
