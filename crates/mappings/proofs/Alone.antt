@@ -36,9 +36,8 @@ use Rattle.mappings.proofs.Options.{none-not-some, same-some, true-not-false}
 use Rattle.mappings.proofs.Firsts.{first-some, first-same}
 use Rattle.mappings.proofs.Ports.{Good, good, blocksFor, port-block}
 use Rattle.mappings.proofs.Shapes.{Shape, Face, Known, Faceless, refuses, stops, delivers, errs, again, makes, gives, ticks, shape}
-use Rattle.mappings.proofs.Sound.{Sound}
+use Rattle.mappings.proofs.Sound.{Sound, put-other}
 use Rattle.mappings.proofs.Soundness.{Next, next-known, lowest-in, fresh-sound, step-sound, list-kept, none-there}
-use Rattle.mappings.proofs.Faces.{put-same, put-other}
 use Rattle.mappings.proofs.Moments.{over-state}
 use Rattle.mappings.proofs.Givings.{given-by, given-not-taken, taken-line}
 

@@ -28,7 +28,7 @@ use Rattle.mappings.proofs.Options.{none-not-some, same-some, true-not-false, 
 use Rattle.mappings.proofs.Firsts.{first-some, first-only}
 use Rattle.mappings.proofs.Ports.{Good, good, blocksFor, block-port}
 use Rattle.mappings.proofs.Shapes.{Shape, Face, Faceless, refuses, stops, delivers, errs, again, makes, gives, ticks, shape}
-use Rattle.mappings.proofs.Sound.{Same, Sound, of-parts, is-face, face-test}
+use Rattle.mappings.proofs.Sound.{Same, Sound, put-same, put-other, of-parts, is-face, face-test}
 use Rattle.mappings.proofs.Soundness.{Next, next-known, lowest-in, fresh-sound, run-sound}
 use Rattle.mappings.proofs.Continued.{state-more, running}
 
@@ -71,12 +71,6 @@ face-used c w es r p m o e l k =
     ap (λ x. x .verdict) (running c (Goes o) s r
         ∙ cond-true (ltb (o .subscriber) (c .subscribers)) (byFace c o s (faceOf c o s)) (only (Refused NoSubscriber) s) (lt-ltb (o .subscriber) (c .subscribers) one)
         ∙ ap (byFace c o s) (face-found c (good c w) s i o p m e l k))
-
-pub put-same : (slots : ℕ → Option Mapping) (p : ℕ) (v : Option Mapping) (q : ℕ) → q ≡ p → put slots p v q ≡ v
-put-same slots p v q e = cond-true (eqb q p) v (slots q) (eq-eqb q p e)
-
-pub put-other : (slots : ℕ → Option Mapping) (p : ℕ) (v : Option Mapping) (q : ℕ) → (q ≡ p → ⊥) → put slots p v q ≡ slots q
-put-other slots p v q ne = cond-false (eqb q p) v (slots q) (ne-eqb q p ne)
 
 -- the lowest port of a block that nobody has is free
 pub given-free : (c : Config) → Good c → (s : State) → Sound c s → (n b : ℕ) → Next c s n b → (m : Mapping) → s .slots (portOf c b 0) ≡ Some m → ⊥

@@ -1,4 +1,4 @@
--- What holds of every state that a run comes to: each mapping lies in a block of its subscriber, each further block has the holder that it was given to,
+-- What holds of every state that a run comes to: each mapping lies in a block of its subscriber, the lists of further blocks and their holders agree,
 -- no mapping is kept past its rest, and no live port has two faces.
 use mathlib.Core.Path.{_≡_, refl, sym, _∙_, ap, subst}
 use mathlib.Core.Bool.{Bool, true, false, cond, _&&_, _||_, not}
@@ -14,7 +14,7 @@ use Rattle.std.specs.declared.option.Option.the-variants.{Some, None}
 use Rattle.std.specs.Options.{isSome}
 use Rattle.std.specs.Changed.{kept-by}
 use Rattle.std.proofs.shelf.Lists.{length-set, length-map, length-replicate, getD-set-same, getD-set-other, getD-past}
-use Rattle.std.proofs.shelf.Tests.{and-parts, and-from, eqb-true, eqb-false, eq-eqb, leb-true, le-leb, cases-eq, cases-bool, not-true, not-false, ltb-true}
+use Rattle.std.proofs.shelf.Tests.{cond-true, cond-false, ne-eqb, and-parts, and-from, eqb-true, eqb-false, eq-eqb, leb-true, le-leb, cases-eq, cases-bool, not-true, not-false, ltb-true}
 use Rattle.blocks.specs.Config.{Config, lowestPort, blocksOf}
 use Rattle.blocks.specs.Ports.{blockOf, portOf}
 use Rattle.mappings.specs.declared.event.Protocol.{Protocol}
@@ -41,6 +41,8 @@ pub record Sound (c : Config) (s : State) : Type 0 where
   pub blocks : length (s .holders) ≡ blocksOf c
   pub owned : (p : ℕ) (m : Mapping) → s .slots p ≡ Some m → (m .subscriber < c .subscribers) × (lowestPort ≤ p) × List·Memᴰ (blockOf c p) (blocksFor s (m .subscriber))
   pub held : (n b : ℕ) → List·Memᴰ b (furtherOf s n) → (getD (s .holders) b None ≡ Some n) × (c .subscribers ≤ b)
+  pub listed : (n b : ℕ) → getD (s .holders) b None ≡ Some n → List·Memᴰ b (furtherOf s n)
+  pub most : (n : ℕ) → length (furtherOf s n) ≤ c .further
   pub rests : (p : ℕ) (m : Mapping) → s .slots p ≡ Some m → liveOrResting c (s .tick) m ≡ true
   pub face : (p q : ℕ) (m n : Mapping) → s .slots p ≡ Some m → s .slots q ≡ Some n → live c (s .tick) m ≡ true → live c (s .tick) n ≡ true → Same m n → p ≡ q
 
@@ -51,6 +53,12 @@ put-cases slots p v q w e = go (eqb q p) refl e
     go : (b : Bool) → eqb q p ≡ b → cond b v (slots q) ≡ w → ((q ≡ p) × (v ≡ w)) ⊎ ((q ≡ p → ⊥) × (slots q ≡ w))
     go true h k = inl (eqb-true q p h, k)
     go false h k = inr (eqb-false q p h, k)
+
+pub put-same : (slots : ℕ → Option Mapping) (p : ℕ) (v : Option Mapping) (q : ℕ) → q ≡ p → put slots p v q ≡ v
+put-same slots p v q e = cond-true (eqb q p) v (slots q) (eq-eqb q p e)
+
+pub put-other : (slots : ℕ → Option Mapping) (p : ℕ) (v : Option Mapping) (q : ℕ) → (q ≡ p → ⊥) → put slots p v q ≡ slots q
+put-other slots p v q ne = cond-false (eqb q p) v (slots q) (ne-eqb q p ne)
 
 pub same-protocol : (x y : Protocol) → sameProtocol x y ≡ true → x ≡ y
 same-protocol Udp Udp e = refl

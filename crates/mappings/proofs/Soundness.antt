@@ -12,7 +12,7 @@ use Rattle.std.specs.declared.option.Option.{Option}
 use Rattle.std.specs.declared.option.Option.the-variants.{Some, None}
 use Rattle.std.specs.Options.{isSome}
 use Rattle.std.specs.Changed.{kept-by}
-use Rattle.std.proofs.shelf.Lists.{length-set, length-map, length-replicate, getD-set-same, getD-set-other}
+use Rattle.std.proofs.shelf.Lists.{length-push, length-set, length-map, length-replicate, getD-set-same, getD-set-other}
 use Rattle.std.proofs.shelf.Tests.{leb-true, le-leb, cases-eq, not-true, ltb-true}
 use Rattle.blocks.specs.Config.{Config, lowestPort, blocksOf}
 use Rattle.blocks.specs.Ports.{blockOf, portOf}
@@ -27,13 +27,13 @@ use Rattle.mappings.proofs.Options.{none-not-some, same-some, true-not-false, 
 use Rattle.mappings.proofs.Firsts.{first-some, first-none, range-has, has-range}
 use Rattle.mappings.proofs.Ports.{Good, in-block, block-has, blocksFor, port-block, block-port}
 use Rattle.mappings.proofs.Shapes.{Shape, Face, Known, Faceless, refuses, stops, delivers, errs, again, makes, gives, ticks, shape}
-use Rattle.mappings.proofs.Sound.{Same, Sound, put-cases, of-parts, of-from, faceless}
+use Rattle.mappings.proofs.Sound.{Same, Sound, put-cases, put-same, put-other, of-parts, of-from, faceless}
 
 counted-sound : (c : Config) (s : State) → Sound c s → Sound c (counted (s .slots) s)
-counted-sound c s i = record { lists = i .lists; blocks = i .blocks; owned = i .owned; held = i .held; rests = i .rests; face = i .face }
+counted-sound c s i = record { lists = i .lists; blocks = i .blocks; owned = i .owned; held = i .held; listed = i .listed; most = i .most; rests = i .rests; face = i .face }
 
 ended-sound : (c : Config) (s : State) → Sound c s → Sound c (ended s)
-ended-sound c s i = record { lists = i .lists; blocks = i .blocks; owned = i .owned; held = i .held; rests = i .rests; face = i .face }
+ended-sound c s i = record { lists = i .lists; blocks = i .blocks; owned = i .owned; held = i .held; listed = i .listed; most = i .most; rests = i .rests; face = i .face }
 
 same-back : (m n : Mapping) → Same m n → Same n m
 same-back m n k = record { subscriber = sym (k .subscriber); protocol = sym (k .protocol); port = sym (k .port) }
@@ -70,7 +70,7 @@ module _ (c : Config) (s : State) (i : Sound c s) (p : ℕ) (x : Mapping) (one :
       go (inr h) (inr j) = i .face q r m n (h .1) (j .1) l k same
 
   put-sound : Sound c (counted (put (s .slots) p (Some x)) s)
-  put-sound = record { lists = i .lists; blocks = i .blocks; owned = put-owned; held = i .held; rests = put-rests; face = put-face }
+  put-sound = record { lists = i .lists; blocks = i .blocks; owned = put-owned; held = i .held; listed = i .listed; most = i .most; rests = put-rests; face = put-face }
 
 fresh-lives : (c : Config) (t : ℕ) → leb t (t + c .life + c .rest) ≡ true
 fresh-lives c t = le-leb t (t + c .life + c .rest) (omega arith)
@@ -123,6 +123,9 @@ module _ (c : Config) (s : State) (i : Sound c s) (n b : ℕ) (one : n < c .subs
   other-list : (k : ℕ) → (k ≡ n → ⊥) → furtherOf (withBlock n b s) k ≡ furtherOf s k
   other-list k ne = getD-set-other (s .further) n k (furtherOf s n ++ b ∷ []) [] ne
 
+  given-among : List·Memᴰ b (furtherOf (withBlock n b s) n)
+  given-among = subst (λ ys. List·Memᴰ b ys) (sym given-list) (Memᴰ·append-right (furtherOf s n) (List·Memᴰ·head refl))
+
   more-blocks : (k x : ℕ) → List·Memᴰ x (furtherOf s k) → List·Memᴰ x (furtherOf (withBlock n b s) k)
   more-blocks k x j = ⊎-elim
       (λ (e : k ≡ n). subst (λ y. List·Memᴰ x (furtherOf (withBlock n b s) y)) (sym e) (subst (λ ys. List·Memᴰ x ys) (sym given-list) (Memᴰ·append-left (b ∷ []) (subst (λ y. List·Memᴰ x (furtherOf s y)) e j))))
@@ -154,13 +157,24 @@ module _ (c : Config) (s : State) (i : Sound c s) (n b : ℕ) (one : n < c .subs
       let own = i .owned p m h in
       (own .0, own .1, ⊎-elim (λ (e : blockOf c p ≡ m .subscriber). List·Memᴰ·head e) (λ (l : List·Memᴰ (blockOf c p) (furtherOf s (m .subscriber))). List·Memᴰ·tail (more-blocks (m .subscriber) (blockOf c p) l)) (List·Memᴰ·cases-cons (own .2)))
 
+  listed-after : (k x : ℕ) → getD (set (s .holders) b (Some n)) x None ≡ Some k → List·Memᴰ x (furtherOf (withBlock n b s) k)
+  listed-after k x e = ⊎-elim
+      (λ (h : x ≡ b).
+          let same : n ≡ k = same-some (sym (now-held .0) ∙ ap (λ y. getD (set (s .holders) b (Some n)) y None) (sym h) ∙ e) in
+          subst (λ y. List·Memᴰ x (furtherOf (withBlock n b s) y)) same (Memᴰ·cast h given-among))
+      (λ (ne : x ≡ b → ⊥). more-blocks k x (i .listed k x (sym (getD-set-other (s .holders) b x (Some n) None ne) ∙ e)))
+      (cases-eq x b)
+
+  most-after : (k : ℕ) → length (furtherOf (withBlock n b s) k) ≤ c .further
+  most-after k = ⊎-elim
+      (λ (e : k ≡ n). let longer = ap length (ap (furtherOf (withBlock n b s)) e ∙ given-list) ∙ length-push (furtherOf s n) b in omega (arith, new .fewer))
+      (λ (ne : k ≡ n → ⊥). subst (λ ys. length ys ≤ c .further) (sym (other-list k ne)) (i .most k))
+      (cases-eq k n)
+
   block-sound : Sound c (withBlock n b s)
   block-sound = record {
       lists = length-set (s .further) n (furtherOf s n ++ b ∷ []) ∙ i .lists; blocks = length-set (s .holders) b (Some n) ∙ i .blocks;
-      owned = owned-after; held = held-after; rests = i .rests; face = i .face }
-
-  given-among : List·Memᴰ b (furtherOf (withBlock n b s) n)
-  given-among = subst (λ ys. List·Memᴰ b ys) (sym given-list) (Memᴰ·append-right (furtherOf s n) (List·Memᴰ·head refl))
+      owned = owned-after; held = held-after; listed = listed-after; most = most-after; rests = i .rests; face = i .face }
 
 -- the lowest port of a block lies in it
 pub lowest-in : (c : Config) → Good c → (b : ℕ) → (lowestPort ≤ portOf c b 0) × (blockOf c (portOf c b 0) ≡ b)
@@ -201,6 +215,14 @@ has-kept f (y ∷ ys) x i = go (has-kept f ys x) (f y) refl i
     go : (List·Memᴰ x (kept-by f ys) → List·Memᴰ x ys × (f x ≡ true)) → (b : Bool) → f y ≡ b → List·Memᴰ x (cond b (y ∷ kept-by f ys) (kept-by f ys)) → List·Memᴰ x (y ∷ ys) × (f x ≡ true)
     go later true k j = ⊎-elim (λ (e : x ≡ y). (List·Memᴰ·head e, ap f e ∙ k)) (λ (l : List·Memᴰ x (kept-by f ys)). (List·Memᴰ·tail (later l .0), later l .1)) (List·Memᴰ·cases-cons j)
     go later false k j = (List·Memᴰ·tail (later j .0), later j .1)
+
+kept-fewer : (f : ℕ → Bool) (xs : List ℕ) → length (kept-by f xs) ≤ length xs
+kept-fewer f [] = omega arith
+kept-fewer f (x ∷ xs) = go (f x) (kept-fewer f xs)
+  where
+    go : (b : Bool) → length (kept-by f xs) ≤ length xs → length (cond b (x ∷ kept-by f xs) (kept-by f xs)) ≤ suc (length xs)
+    go true h = omega arith
+    go false h = omega arith
 
 pub list-kept : (f : ℕ → Bool) (xss : List (List ℕ)) (n : ℕ) → getD (map (kept-by f) xss) n [] ≡ kept-by f (getD xss n [])
 list-kept f [] n = refl
@@ -257,13 +279,26 @@ module _ (c : Config) (g : Good c) (s : State) (i : Sound c s) where
       let h = i .held n b (k .0) in
       (holder-left c slotsThen 0 (s .holders) b ∙ ap (λ y. cond (isUsed c slotsThen y) (getD (s .holders) b None) None) (zero-add b) ∙ ap (λ y. cond y (getD (s .holders) b None) None) (k .1) ∙ h .0, h .1)
 
+  tick-listed : (n b : ℕ) → getD (holdersLeft c slotsThen 0 (s .holders)) b None ≡ Some n → List·Memᴰ b (furtherOf (ticked c s .state) n)
+  tick-listed n b e = go (isUsed c slotsThen b) refl (sym (ap (λ y. cond (isUsed c slotsThen y) (getD (s .holders) b None) None) (zero-add b)) ∙ sym (holder-left c slotsThen 0 (s .holders) b) ∙ e)
+    where
+      go : (t : Bool) → isUsed c slotsThen b ≡ t → cond t (getD (s .holders) b None) None ≡ Some n → List·Memᴰ b (furtherOf (ticked c s .state) n)
+      go true h k = subst (λ ys. List·Memᴰ b ys) (sym (list-kept (isUsed c slotsThen) (s .further) n)) (kept-has (isUsed c slotsThen) (furtherOf s n) b (i .listed n b k) h)
+      go false h k = none-not-some k
+
+  tick-most : (n : ℕ) → length (furtherOf (ticked c s .state) n) ≤ c .further
+  tick-most n =
+      let fewer : length (furtherOf (ticked c s .state) n) ≤ length (furtherOf s n) =
+          subst (λ ys. length ys ≤ length (furtherOf s n)) (sym (list-kept (isUsed c slotsThen) (s .further) n)) (kept-fewer (isUsed c slotsThen) (furtherOf s n)) in
+      omega (arith, i .most n)
+
   lived : (m : Mapping) → live c (s .tick + 1) m ≡ true → live c (s .tick) m ≡ true
   lived m e = le-leb (s .tick) (m .last + c .life) (omega (arith, leb-true (s .tick + 1) (m .last + c .life) e))
 
   tick-sound : Sound c (ticked c s .state)
   tick-sound = record {
       lists = length-map (s .further) (kept-by (isUsed c slotsThen)) ∙ i .lists; blocks = holders-length c slotsThen 0 (s .holders) ∙ i .blocks;
-      owned = tick-owned; held = tick-held; rests = λ p m e. was p m e .1;
+      owned = tick-owned; held = tick-held; listed = tick-listed; most = tick-most; rests = λ p m e. was p m e .1;
       face = λ p q m n e f l k same. i .face p q m n (was p m e .0) (was q n f .0) (lived m l) (lived n k) same }
 
 pub step-sound : (c : Config) → Good c → (s : State) → Sound c s → {e : Event} {r : Step} → Shape c s e r → Sound c (r .state)
@@ -276,6 +311,11 @@ step-sound c g s i (makes o p f e) = makes-sound c g s i o p f e
 step-sound c g s i (gives o b f a e) = gives-sound c g s i o b f e
 step-sound c g s i (ticks a) = tick-sound c g s i
 
+pub nobody-there : (n b : ℕ) → getD {A = Option ℕ} (replicate n None) b None ≡ None
+nobody-there zero b = refl
+nobody-there (suc n) zero = refl
+nobody-there (suc n) (suc b) = nobody-there n b
+
 pub none-there : (n k : ℕ) → getD {A = List ℕ} (replicate n []) k [] ≡ []
 none-there zero k = refl
 none-there (suc n) zero = refl
@@ -285,6 +325,7 @@ pub fresh-sound : (c : Config) → Sound c (fresh c)
 fresh-sound c = record {
     lists = length-replicate (c .subscribers) []; blocks = length-replicate (blocksOf c) None;
     owned = λ p m e. none-not-some e; held = λ n b j. go n b (subst (λ ys. List·Memᴰ b ys) (none-there (c .subscribers) n) j);
+    listed = λ n b e. none-not-some (sym (nobody-there (blocksOf c) b) ∙ e); most = λ n. subst (λ ys. length ys ≤ c .further) (sym (none-there (c .subscribers) n)) (omega arith);
     rests = λ p m e. none-not-some e; face = λ p q m n e f l k same. none-not-some e }
   where
     go : (n b : ℕ) → List·Memᴰ {A = ℕ} b [] → (getD (fresh c .holders) b None ≡ Some n) × (c .subscribers ≤ b)
