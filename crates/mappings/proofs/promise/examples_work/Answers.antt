@@ -1,0 +1,5 @@
+use Rattle.mappings.proofs.Worked.{worked}
+use Rattle.mappings.proofs.promise.examples_work.Needs as need
+
+pub returns : need.returns
+returns c = worked

@@ -1,0 +1,5 @@
+use Rattle.mappings.proofs.Faces.{one-owner, one-face, face-used, face-stays}
+use Rattle.mappings.proofs.promise.one_owner_one_face.Needs as need
+
+pub returns : need.returns
+returns c = record { owner = one-owner; face = one-face; used = face-used; stays = face-stays }

@@ -1,0 +1,5 @@
+use Rattle.mappings.proofs.Service.{served, given-in-need, let-in}
+use Rattle.mappings.proofs.promise.subscribers_are_served.Needs as need
+
+pub returns : need.returns
+returns c = record { out = served; need = given-in-need; answers = let-in }
