@@ -5,6 +5,8 @@ ghost use Rattle.sums.specs.Words.{wordSum};
 ghost use lib.ListN.{length};
 ghost use mathlib.Core.Path.{_≡_};
 
+pub mod words;
+
 // The plain sum of the words of `bytes`, which are few enough that it fits.
 pub fn word_sum(bytes: &[u8]) -> u32
     requires { ⌜ length (now bytes) ≤ 65535 ⌝ }
