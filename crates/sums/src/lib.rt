@@ -5,6 +5,7 @@ ghost use Rattle.sums.specs.Words.{wordSum};
 ghost use lib.ListN.{length};
 ghost use mathlib.Core.Path.{_≡_};
 
+pub mod laws;
 pub mod words;
 
 // The plain sum of the words of `bytes`, which are few enough that it fits.

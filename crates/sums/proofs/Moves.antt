@@ -1,0 +1,45 @@
+-- A list's sum, moved by what changed in the list and besides it.
+use mathlib.Core.Path.{_≡_, refl, sym, ap, _∙_}
+use mathlib.Core.Bool.{true}
+use mathlib.Core.List.{List, [], _∷_}
+use Prim.Native.Nat.{ℕ, _+_, _*_, _<_}
+use native.Mathlib.Omega.{arith}
+use lib.ListN.{length}
+use Rattle.sums.specs.Words.{wordAt, putWord, wordSum}
+use Rattle.sums.specs.Sums.{fresh, right, moved, restSum}
+use Rattle.sums.specs.Laws.{Edit, Change, changed, gone, new, Within, OneWord, ManyWords, MovedIsFresh, MovedToZero}
+use Rattle.sums.proofs.Carries.{moved-fresh, moved-zero}
+use Rattle.sums.proofs.Edits.{length-put, sum-put}
+
+pub one-word : OneWord
+one-word k bs w h = record { long = length-put bs (2 * k) w; sum = sum-put k bs w h }
+
+-- one edit after another
+pub both-edits : {bs xs zs : List ℕ} {g n g′ n′ : ℕ} → Edit bs xs g n → Edit xs zs g′ n′ → Edit bs zs (g + g′) (n + n′)
+both-edits d e = record { long = e .long ∙ d .long; sum = omega (arith, d .sum, e .sum) }
+
+pub many-words : ManyWords
+unfolding changed gone new Within
+many-words [] bs h = record { long = refl; sum = refl }
+many-words (c ∷ cs) bs h =
+    let first : Edit bs (putWord bs (2 * c .place) (c .word)) (wordAt bs (2 * c .place)) (c .word) = one-word (c .place) bs (c .word) (h .0) in
+    let rest : Within (length (putWord bs (2 * c .place) (c .word))) cs = rw (first .long) (h .1) in
+    both-edits first (many-words cs (putWord bs (2 * c .place) (c .word)) rest)
+
+-- the sum's own word left out of the list before and after
+left-out : (k : ℕ) (bs : List ℕ) → 2 * k + 1 < length bs → wordSum (putWord bs (2 * k) 0) + wordAt bs (2 * k) ≡ wordSum bs
+left-out k bs h = omega (arith, sum-put k bs 0 h)
+
+pub moved-is-fresh : MovedIsFresh
+moved-is-fresh k bs xs g n before after h e same r pos =
+    let long : 2 * k + 1 < length xs = rw (e .long) h in
+    let whole : before + wordSum bs ≡ restSum before bs (2 * k) + wordAt bs (2 * k) = omega (arith, left-out k bs h) in
+    moved-fresh (restSum before bs (2 * k)) (restSum after xs (2 * k)) (wordAt bs (2 * k)) (before + g) (after + n)
+        (rw (← whole) r) (omega (arith, left-out k bs h, left-out k xs long, e .sum)) pos
+
+pub moved-to-zero : MovedToZero
+moved-to-zero k bs xs g n before after h e same r none =
+    let long : 2 * k + 1 < length xs = rw (e .long) h in
+    let whole : before + wordSum bs ≡ restSum before bs (2 * k) + wordAt bs (2 * k) = omega (arith, left-out k bs h) in
+    moved-zero (restSum before bs (2 * k)) (wordAt bs (2 * k)) (before + g) (after + n)
+        (rw (← whole) r) (omega (arith, left-out k bs h, left-out k xs long, e .sum))
