@@ -13,6 +13,31 @@ use blocks::refusal::Refusal;
 use sums::words::{long_at, word_at};
 use sums::{is_right, word_sum};
 
+// What the packet of these bytes is, or why it is refused.
+pub fn read(packet: &[u8]) -> Result<Reading, Refusal>
+    ensures { λ r. ⌜ r ≡ readOf (now (packet .entry)) ⌝ }
+{
+    if packet.len() < 20 {
+        return Err(Refusal::BadHeader);
+    }
+    let header = &packet[0..20];
+    let body = &packet[20..];
+    read_as(payload_of(header[9]), header, body)
+}
+
+fn read_as(payload: Payload, header: &[u8], body: &[u8]) -> Result<Reading, Refusal>
+    requires { ⌜ length (now header) ≡ 20 ⌝ }
+    ensures { λ r. ⌜ r ≡ readAs payload (now (header .entry)) (now (body .entry)) ⌝ }
+{
+    if !is_plain(header, body) || !body_fits(payload, body) {
+        return Err(Refusal::BadHeader);
+    }
+    if !is_right(word_sum(header)) || !is_body_right(payload, header, body) {
+        return Err(Refusal::WrongSum);
+    }
+    named(payload, header, body)
+}
+
 fn payload_of(number: u8) -> Payload
     ensures { λ r. ⌜ r ≡ payloadOf number ⌝ }
 {
