@@ -2,3 +2,4 @@
 pub mod facts;
 pub mod places;
 pub mod reader;
+pub mod writer;

@@ -7,7 +7,7 @@ use native.Mathlib.Omega.{arith}
 use lib.ListN.{length, getD, set}
 use Rattle.std.proofs.shelf.Lists.{length-set, getD-set-same, getD-set-other, set-set, set-comm}
 use Rattle.sums.specs.Words.{byteAt, wordAt, longAt, putWord, putLong, wordSum}
-use Rattle.sums.proofs.WordSums.{sum-pair}
+use Rattle.sums.proofs.WordSums.{sum-odd, sum-pair}
 
 pub length-put : (bs : List ℕ) (i w : ℕ) → length (putWord bs i w) ≡ length bs
 length-put bs i w = length-set (set bs i (w / 256)) (i + 1) (w % 256) ∙ length-set bs i (w / 256)
@@ -84,3 +84,17 @@ sum-put (suc k) (a ∷ (b ∷ bs)) w h =
     let sum : wordSum (putWord (a ∷ (b ∷ bs)) (2 * suc k) w) ≡ a * 256 + b + wordSum (putWord bs (2 * k) w) =
         ap wordSum put ∙ sum-pair a b (putWord bs (2 * k) w) in
     omega (arith, sum-put k bs w (omega arith), sum-pair a b bs)
+
+-- a word's high byte alone
+pub sum-set : (k : ℕ) (bs : List ℕ) (b : ℕ) → 2 * k < length bs → wordSum (set bs (2 * k) b) + byteAt bs (2 * k) * 256 ≡ wordSum bs + b * 256
+sum-set zero [] b h = omega arith
+sum-set zero (a ∷ []) b h = omega (arith, sum-odd a, sum-odd b)
+sum-set zero (a ∷ (d ∷ bs)) b h = omega (arith, sum-pair a d bs, sum-pair b d bs)
+sum-set (suc k) [] b h = omega arith
+sum-set (suc k) (a ∷ []) b h = omega arith
+sum-set (suc k) (a ∷ (d ∷ bs)) b h =
+    let step : 2 * suc k ≡ suc (suc (2 * k)) = omega arith in
+    let sum : wordSum (set (a ∷ (d ∷ bs)) (2 * suc k) b) ≡ a * 256 + d + wordSum (set bs (2 * k) b) =
+        ap (λ n. wordSum (set (a ∷ (d ∷ bs)) n b)) step ∙ sum-pair a d (set bs (2 * k) b) in
+    let at : byteAt (a ∷ (d ∷ bs)) (2 * suc k) ≡ byteAt bs (2 * k) = ap (λ n. byteAt (a ∷ (d ∷ bs)) n) step in
+    omega (arith, sum-set k bs b (omega arith), sum-pair a d bs)

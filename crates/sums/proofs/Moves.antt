@@ -1,15 +1,16 @@
 -- A list's sum, moved by what changed in the list and besides it.
-use mathlib.Core.Path.{_≡_, refl, sym, ap, _∙_}
+use mathlib.Core.Path.{_≡_, refl, subst, _∙_}
 use mathlib.Core.Bool.{true}
 use mathlib.Core.List.{List, [], _∷_}
-use Prim.Native.Nat.{ℕ, _+_, _*_, _<_}
+use Prim.Native.Nat.{ℕ, _+_, _*_, _/_, _%_, _<_}
 use native.Mathlib.Omega.{arith}
-use lib.ListN.{length}
-use Rattle.sums.specs.Words.{wordAt, putWord, wordSum}
+use lib.ListN.{length, set}
+use Rattle.std.proofs.shelf.Lists.{length-set}
+use Rattle.sums.specs.Words.{byteAt, wordAt, putWord, putLong, wordSum}
 use Rattle.sums.specs.Sums.{fresh, right, moved, restSum}
 use Rattle.sums.specs.Laws.{Edit, Change, changed, gone, new, Within, OneWord, ManyWords, MovedIsFresh, MovedToZero}
 use Rattle.sums.proofs.Carries.{moved-fresh, moved-zero}
-use Rattle.sums.proofs.Edits.{length-put, sum-put}
+use Rattle.sums.proofs.Edits.{length-put, word-above, sum-put, sum-set}
 
 pub one-word : OneWord
 one-word k bs w h = record { long = length-put bs (2 * k) w; sum = sum-put k bs w h }
@@ -43,3 +44,21 @@ moved-to-zero k bs xs g n before after h e same r none =
     let whole : before + wordSum bs ≡ restSum before bs (2 * k) + wordAt bs (2 * k) = omega (arith, left-out k bs h) in
     moved-zero (restSum before bs (2 * k)) (wordAt bs (2 * k)) (before + g) (after + n)
         (rw (← whole) r) (omega (arith, left-out k bs h, left-out k xs long, e .sum))
+
+-- a number of 32 bits is two words
+pub one-long : (k : ℕ) (bs : List ℕ) (n : ℕ) → 2 * k + 3 < length bs →
+    Edit bs (putLong bs (2 * k) n) (wordAt bs (2 * k) + wordAt bs (2 * k + 2)) (n / 65536 + n % 65536)
+one-long k bs n h =
+    let first : List ℕ = putWord bs (2 * k) (n / 65536) in
+    let next : 2 * (k + 1) ≡ 2 * k + 2 = omega arith in
+    let long : 2 * (k + 1) + 1 < length first = omega (arith, length-put bs (2 * k) (n / 65536)) in
+    let same : wordAt first (2 * k + 2) ≡ wordAt bs (2 * k + 2) = word-above bs (2 * k) (n / 65536) (2 * k + 2) (omega arith) in
+    let P : ℕ → Type 0 = λ i. Edit first (putWord first i (n % 65536)) (wordAt first i) (n % 65536) in
+    let second : P (2 * k + 2) = subst P next (one-word (k + 1) first (n % 65536) long) in
+    let whole : Edit bs (putLong bs (2 * k) n) (wordAt bs (2 * k) + wordAt first (2 * k + 2)) (n / 65536 + n % 65536) =
+        both-edits (one-word k bs (n / 65536) (omega arith)) second in
+    record { long = whole .long; sum = omega (arith, whole .sum) }
+
+-- a word's high byte alone
+pub one-high : (k : ℕ) (bs : List ℕ) (b : ℕ) → 2 * k < length bs → Edit bs (set bs (2 * k) b) (byteAt bs (2 * k) * 256) (b * 256)
+one-high k bs b h = record { long = length-set bs (2 * k) b; sum = sum-set k bs b h }
