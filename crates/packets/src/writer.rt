@@ -1,5 +1,4 @@
 // Writing the packet that leaves, in place: every new sum is worked out from the old one and what changed.
-ghost use Prim.Native.Nat.{_%_, _+_, _/_, _<_};
 ghost use Rattle.packets.specs.Fields.{versionAndLength};
 ghost use Rattle.packets.specs.Writing.{sentHeader};
 ghost use Rattle.sums.specs.Sums.{right};
@@ -11,24 +10,18 @@ ghost use mathlib.Core.Path.{_≡_};
 use crate::facts::End;
 use crate::places::address_at;
 use sums::move_sum;
-use sums::words::{long_at, put_long, put_word, word_at};
-
-// The sum of a number's two words.
-fn long_sum(long: u32) -> u32
-    ensures is { λ r. ⌜ r ≡ long / 65536 + long % 65536 ⌝ }
-    ensures small { λ r. ⌜ r < 131071 ⌝ }
-{
-    long / 65536 + long % 65536
-}
+use sums::words::{put_long, put_word, word_at};
 
 fn write_header(header: &mut [u8], end: End, address: u32)
-    requires { ⌜ length (now header) ≡ 20 ⌝ ∗ ⌜ versionAndLength (now header) ≡ 0x45 ⌝ ∗ ⌜ right (wordSum (now header)) ≡ true ⌝ }
+    requires long { ⌜ length (now header) ≡ 20 ⌝ }
+    requires version { ⌜ versionAndLength (now header) ≡ 0x45 ⌝ }
+    requires sum { ⌜ right (wordSum (now header)) ≡ true ⌝ }
     ensures { λ _. ⌜ now (header .exit) ≡ sentHeader end address (now (header .entry)) ⌝ }
 {
     let at = address_at(end);
     let ttl = header[8].saturating_sub(1);
-    let gone = long_sum(long_at(header, at)) + u32::from(header[8]) * 256;
-    let new = long_sum(address) + u32::from(ttl) * 256;
+    let gone = u32::from(header[8]) * 256 + (u32::from(word_at(header, at)) + u32::from(word_at(header, at + 2)));
+    let new = u32::from(ttl) * 256 + (address / 65536 + address % 65536);
     header[8] = ttl;
     put_long(header, at, address);
     put_word(header, 10, move_sum(word_at(header, 10), gone, new));

@@ -32,3 +32,9 @@ sum-last bs i h l =
 
 pub sum-end : (bs : List ℕ) (i : ℕ) → length bs ≤ i → wordSum (drop i bs) ≡ 0
 sum-end bs i l = ap wordSum (drop-all i bs l) ∙ sum-none
+
+-- the first word is part of the sum
+pub sum-first : (bs : List ℕ) → byteAt bs 0 ≤ wordSum bs
+sum-first [] = omega arith
+sum-first (a ∷ []) = omega (arith, sum-odd a)
+sum-first (a ∷ (b ∷ bs)) = omega (arith, sum-pair a b bs)
