@@ -1,11 +1,12 @@
 -- Laws of putting a word into a list of bytes: what is read back, what stays, and how the sum of all words moves.
 use mathlib.Core.Path.{_≡_, refl, sym, ap, _∙_}
-use mathlib.Core.Logic.{_≢_}
+use mathlib.Core.Logic.{_≢_, inl, inr}
 use mathlib.Core.List.{List, [], _∷_}
 use Prim.Native.Nat.{ℕ, zero, suc, _+_, _*_, _/_, _%_, _≤_, _<_}
 use native.Mathlib.Omega.{arith}
 use lib.ListN.{length, getD, set}
 use Rattle.std.proofs.shelf.Lists.{length-set, getD-set-same, getD-set-other, set-set, set-comm}
+use Rattle.std.proofs.shelf.Tests.{cases-order}
 use Rattle.sums.specs.Words.{byteAt, wordAt, longAt, putWord, putLong, wordSum}
 use Rattle.sums.proofs.WordSums.{sum-odd, sum-pair}
 
@@ -37,6 +38,14 @@ word-above bs i w j h =
     let high : byteAt (putWord bs i w) j ≡ byteAt bs j = byte-other bs i w j (omega arith) (omega arith) in
     let low : byteAt (putWord bs i w) (j + 1) ≡ byteAt bs (j + 1) = byte-other bs i w (j + 1) (omega arith) (omega arith) in
     omega arith
+
+-- so does every other word at an even place
+pub word-apart : (bs : List ℕ) (j w k : ℕ) → k ≢ j → wordAt (putWord bs (2 * j) w) (2 * k) ≡ wordAt bs (2 * k)
+word-apart bs j w k ne =
+    elim (cases-order k j) [
+      inl same ↦ absurd (ne same)
+    | inr (inl less) ↦ word-below bs (2 * j) w (2 * k) (omega arith)
+    | inr (inr more) ↦ word-above bs (2 * j) w (2 * k) (omega arith) ]
 
 -- of two words put at one place the second is left
 pub put-put : (bs : List ℕ) (i v w : ℕ) → putWord (putWord bs i v) i w ≡ putWord bs i w
