@@ -1,2 +1,3 @@
 pub mod Headers
 pub mod Bodies
+pub mod Readable

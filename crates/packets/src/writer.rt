@@ -1,7 +1,11 @@
 // Writing the packet that leaves, in place: every new sum is worked out from the old one and what changed.
 ghost use Prim.Native.Nat.{_+_, _<_, _≤_, _^_};
 ghost use Rattle.packets.specs.Fields.{versionAndLength};
-ghost use Rattle.packets.specs.Writing.{Besides, hasNoSum, isAbsent, isSpelledOut, leastOf, sentBody, sentHeader};
+ghost use Rattle.packets.specs.Reading.{readOf};
+ghost use Rattle.packets.specs.Writing.{Besides, besides, hasNoSum, isAbsent, isSpelledOut, leastOf, sent, sentBody, sentHeader};
+ghost use Rattle.packets.specs.declared.facts.End.the-variants.{Destination, Source};
+ghost use Rattle.packets.specs.declared.facts.Reading.the-variants.{Packet};
+ghost use Rattle.std.specs.declared.result.Result.the-variants.{Ok};
 ghost use Rattle.sums.specs.Sums.{right};
 ghost use Rattle.sums.specs.Words.{wordSum};
 ghost use lib.Dec.{eqb};
@@ -9,10 +13,51 @@ ghost use lib.ListN.{length};
 ghost use mathlib.Core.Bool.{_&&_, false, true};
 ghost use mathlib.Core.Path.{_≡_};
 
-use crate::facts::{End, Protocol};
+use crate::facts::{End, Endpoint, Facts, Protocol};
 use crate::places::{address_at, port_at, sum_at};
+use crate::reader::pseudo_sum;
 use sums::{move_sum, word_sum};
 use sums::words::{put_long, put_word, word_at};
+
+// Writes the packet that goes out: its source is now `external`.
+pub fn write_out(packet: &mut [u8], facts: Facts, external: Endpoint)
+    requires { ⌜ readOf (now packet) ≡ Ok (Packet facts) ⌝ }
+    ensures { λ _. ⌜ now (packet .exit) ≡ sent (facts .protocol) Source external (now (packet .entry)) ⌝ }
+{
+    write(packet, facts, End::Source, external);
+}
+
+// Writes the packet that comes in: its destination is now `internal`.
+pub fn write_in(packet: &mut [u8], facts: Facts, internal: Endpoint)
+    requires { ⌜ readOf (now packet) ≡ Ok (Packet facts) ⌝ }
+    ensures { λ _. ⌜ now (packet .exit) ≡ sent (facts .protocol) Destination internal (now (packet .entry)) ⌝ }
+{
+    write(packet, facts, End::Destination, internal);
+}
+
+// The packet is one that was read, so that its lengths are known and its sums are right.
+fn write(packet: &mut [u8], facts: Facts, end: End, endpoint: Endpoint)
+    requires { ⌜ readOf (now packet) ≡ Ok (Packet facts) ⌝ }
+    ensures { λ _. ⌜ now (packet .exit) ≡ sent (facts .protocol) end endpoint (now (packet .entry)) ⌝ }
+{
+    let count = (packet.len() - 20) as u16;
+    let before = sum_besides(facts.protocol, &packet[0..20], count);
+    write_header(&mut packet[0..20], end, endpoint.address);
+    let after = sum_besides(facts.protocol, &packet[0..20], count);
+    write_body(&mut packet[20..], facts.protocol, end, before, after, endpoint.port);
+}
+
+// What counts in a body's sum besides the body itself.
+fn sum_besides(protocol: Protocol, header: &[u8], count: u16) -> u32
+    requires { ⌜ length (now header) ≡ 20 ⌝ }
+    ensures is { λ r. ⌜ r ≡ besides protocol (now (header .entry)) count ⌝ }
+    ensures small { λ r. ⌜ r < 2 ^ 20 ⌝ }
+{
+    match protocol {
+        Protocol::Udp | Protocol::Tcp => pseudo_sum(header, count),
+        Protocol::Echo => 0,
+    }
+}
 
 fn write_header(header: &mut [u8], end: End, address: u32)
     requires long { ⌜ length (now header) ≡ 20 ⌝ }
