@@ -7,12 +7,12 @@ use Prim.Native.Nat.{ℕ, _+_, _-_, _*_, _≤_, _<_}
 use native.Mathlib.Omega.{arith}
 use lib.Dec.{eqb}
 use lib.ListN.{length}
-use Rattle.std.proofs.shelf.Tests.{cases-eq, cases-bool, cond-false, cond-true, eqb-true}
+use Rattle.std.proofs.shelf.Tests.{cases-eq, cases-bool, cond-both, cond-false, cond-true, eqb-true}
 use Rattle.std.proofs.shelf.Ways.{tells}
 use Rattle.sums.specs.Words.{wordAt, putWord, wordSum}
 use Rattle.sums.specs.Sums.{ones, fresh, right, moved, nonzero, restSum}
 use Rattle.sums.proofs.Carries.{ones-none}
-use Rattle.sums.proofs.Edits.{put-put, word-apart}
+use Rattle.sums.proofs.Edits.{length-put, put-put, word-apart}
 use Rattle.sums.proofs.Moves.{one-word, moved-is-fresh, moved-to-zero}
 use Rattle.packets.specs.declared.facts.Protocol.{Protocol}
 use Rattle.packets.specs.declared.facts.Protocol.the-variants.{Udp, Tcp, Echo}
@@ -123,3 +123,11 @@ module _ (p : Protocol) (e : End) (b : List ℕ) (port before after : ℕ) (long
 
   pub plain-steps : z ≡ false → summing ≡ sentBody p e after port b
   plain-steps f = summed-there ∙ body-sent p e b port before after long besides summed (r summed) m m sum-there (sym (cond-false _ 65535 m (flag ∙ f)))
+
+pub length-sent-body : (p : Protocol) (e : End) (extra port : ℕ) (b : List ℕ) → length (sentBody p e extra port b) ≡ length b
+length-sent-body p e extra port b =
+    let c : List ℕ = putWord b (portAt p e) port in
+    let s : ℕ = spelled p (fresh (restSum extra c (sumAt p))) in
+    cond-both (hasNoSum p b) c (putWord c (sumAt p) s) (λ xs. length xs ≡ length b)
+        (λ _. length-put b (portAt p e) port)
+        (λ _. length-put c (sumAt p) s ∙ length-put b (portAt p e) port)

@@ -75,3 +75,11 @@ header-moved e a h l v r =
         moved-is-fresh 5 h g gone new 0 0 at-ten (readdressed-edit e a h l) same whole some in
     ap (λ w. moved w gone new) same
     ∙ (ap (λ x. moved (wordAt h 10) x new) (sym (zero-add gone)) ∙ (ap (λ x. moved (wordAt h 10) (0 + gone) x) (sym (zero-add new)) ∙ law))
+
+pub length-readdressed : (e : End) (a : ℕ) (h : List ℕ) → length (readdressed e a h) ≡ length h
+length-readdressed e a h =
+    length-put (putWord (set h 8 (timeToLive h - 1)) (addressAt e) (a / 65536)) (addressAt e + 2) (a % 65536)
+    ∙ (length-put (set h 8 (timeToLive h - 1)) (addressAt e) (a / 65536) ∙ length-set h 8 (timeToLive h - 1))
+
+pub length-sent-header : (e : End) (a : ℕ) (h : List ℕ) → length (sentHeader e a h) ≡ length h
+length-sent-header e a h = length-put (readdressed e a h) 10 (fresh (restSum 0 (readdressed e a h) 10)) ∙ length-readdressed e a h

@@ -1,3 +1,5 @@
 pub mod Headers
 pub mod Bodies
 pub mod Readable
+pub mod Accepted
+pub mod Halves

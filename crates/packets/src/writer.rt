@@ -40,7 +40,7 @@ fn write(packet: &mut [u8], facts: Facts, end: End, endpoint: Endpoint)
     requires { ⌜ readOf (now packet) ≡ Ok (Packet facts) ⌝ }
     ensures { λ _. ⌜ now (packet .exit) ≡ sent (facts .protocol) end endpoint (now (packet .entry)) ⌝ }
 {
-    let count = (packet.len() - 20) as u16;
+    let count = word_at(packet, 2) - 20;
     let before = sum_besides(facts.protocol, &packet[0..20], count);
     write_header(&mut packet[0..20], end, endpoint.address);
     let after = sum_besides(facts.protocol, &packet[0..20], count);
@@ -76,7 +76,7 @@ fn write_header(header: &mut [u8], end: End, address: u32)
 
 fn write_body(body: &mut [u8], protocol: Protocol, end: End, before: u32, after: u32, port: u16)
     requires long { ⌜ leastOf protocol ≤ length (now body) ⌝ }
-    requires short { ⌜ length (now body) < 65516 ⌝ }
+    requires short { ⌜ length (now body) ≤ 65535 ⌝ }
     requires small { ⌜ before < 2 ^ 20 ⌝ ∗ ⌜ after < 2 ^ 20 ⌝ }
     requires besides { ⌜ Besides protocol after ⌝ }
     requires sum { ⌜ (hasNoSum protocol (now body) ≡ false → right (before + wordSum (now body)) ≡ true) ⌝ }
@@ -109,7 +109,7 @@ fn has_no_sum(protocol: Protocol, sum: u16) -> bool
 
 // Whether this body's sum is a 0 that is to be sent as 65,535. For an echo with a sum of 0 alone this reads the rest of it.
 fn is_spelled_out(protocol: Protocol, sum: u16, body: &[u8]) -> bool
-    requires { ⌜ length (now body) < 65516 ⌝ }
+    requires { ⌜ length (now body) ≤ 65535 ⌝ }
     ensures { λ r. ⌜ r ≡ (eqb sum 0 && isSpelledOut protocol (wordSum (now (body .entry)))) ⌝ }
 {
     if sum != 0 {
