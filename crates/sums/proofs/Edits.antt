@@ -1,6 +1,6 @@
 -- Laws of putting a word into a list of bytes: what is read back, what stays, and how the sum of all words moves.
 use mathlib.Core.Path.{_≡_, refl, sym, ap, _∙_}
-use mathlib.Core.Logic.{_≢_, inl, inr}
+use mathlib.Core.Logic.{_≢_, _⊎_, inl, inr}
 use mathlib.Core.List.{List, [], _∷_}
 use Prim.Native.Nat.{ℕ, zero, suc, _+_, _*_, _/_, _%_, _≤_, _<_}
 use native.Mathlib.Omega.{arith}
@@ -107,3 +107,21 @@ sum-set (suc k) (a ∷ (d ∷ bs)) b h =
         ap (λ n. wordSum (set (a ∷ (d ∷ bs)) n b)) step ∙ sum-pair a d (set bs (2 * k) b) in
     let at : byteAt (a ∷ (d ∷ bs)) (2 * suc k) ≡ byteAt bs (2 * k) = ap (λ n. byteAt (a ∷ (d ∷ bs)) n) step in
     omega (arith, sum-set k bs b (omega arith), sum-pair a d bs)
+
+-- the same of a number of 32 bits
+pub length-put-long : (bs : List ℕ) (i n : ℕ) → length (putLong bs i n) ≡ length bs
+length-put-long bs i n = length-put (putWord bs i (n / 65536)) (i + 2) (n % 65536) ∙ length-put bs i (n / 65536)
+
+pub byte-apart : (bs : List ℕ) (i n j : ℕ) → (j < i) ⊎ (i + 3 < j) → byteAt (putLong bs i n) j ≡ byteAt bs j
+byte-apart bs i n j h =
+    byte-other (putWord bs i (n / 65536)) (i + 2) (n % 65536) j (omega arith) (omega arith)
+    ∙ byte-other bs i (n / 65536) j (omega arith) (omega arith)
+
+pub long-same : (bs : List ℕ) (i n : ℕ) → i + 3 < length bs → longAt (putLong bs i n) i ≡ n
+long-same bs i n h =
+    let first : List ℕ = putWord bs i (n / 65536) in
+    let high : wordAt (putLong bs i n) i ≡ n / 65536 =
+        word-below first (i + 2) (n % 65536) i (omega arith) ∙ word-same bs i (n / 65536) (omega arith) in
+    let low : wordAt (putLong bs i n) (i + 2) ≡ n % 65536 =
+        word-same first (i + 2) (n % 65536) (omega (arith, length-put bs i (n / 65536))) in
+    omega arith

@@ -1,5 +1,5 @@
 -- A list's sum, moved by what changed in the list and besides it.
-use mathlib.Core.Path.{_≡_, refl, subst, _∙_}
+use mathlib.Core.Path.{_≡_, refl, ap, subst, _∙_}
 use mathlib.Core.Bool.{true}
 use mathlib.Core.List.{List, [], _∷_}
 use Prim.Native.Nat.{ℕ, _+_, _*_, _/_, _%_, _<_}
@@ -10,7 +10,7 @@ use Rattle.sums.specs.Words.{byteAt, wordAt, putWord, putLong, wordSum}
 use Rattle.sums.specs.Sums.{fresh, right, moved, restSum}
 use Rattle.sums.specs.Laws.{Edit, Change, changed, gone, new, Within, OneWord, ManyWords, MovedIsFresh, MovedToZero}
 use Rattle.sums.proofs.Carries.{moved-fresh, moved-zero}
-use Rattle.sums.proofs.Edits.{length-put, word-above, sum-put, sum-set}
+use Rattle.sums.proofs.Edits.{length-put, put-put, word-above, sum-put, sum-set}
 
 pub one-word : OneWord
 one-word k bs w h = record { long = length-put bs (2 * k) w; sum = sum-put k bs w h }
@@ -28,7 +28,7 @@ many-words (c ∷ cs) bs h =
     both-edits first (many-words cs (putWord bs (2 * c .place) (c .word)) rest)
 
 -- the sum's own word left out of the list before and after
-left-out : (k : ℕ) (bs : List ℕ) → 2 * k + 1 < length bs → wordSum (putWord bs (2 * k) 0) + wordAt bs (2 * k) ≡ wordSum bs
+pub left-out : (k : ℕ) (bs : List ℕ) → 2 * k + 1 < length bs → wordSum (putWord bs (2 * k) 0) + wordAt bs (2 * k) ≡ wordSum bs
 left-out k bs h = omega (arith, sum-put k bs 0 h)
 
 pub moved-is-fresh : MovedIsFresh
@@ -62,3 +62,14 @@ one-long k bs n h =
 -- a word's high byte alone
 pub one-high : (k : ℕ) (bs : List ℕ) (b : ℕ) → 2 * k < length bs → Edit bs (set bs (2 * k) b) (byteAt bs (2 * k) * 256) (b * 256)
 one-high k bs b h = record { long = length-set bs (2 * k) b; sum = sum-set k bs b h }
+
+-- a fresh sum in its place: it is that of the list that it stands in, and the list's sum is right
+pub fresh-there : (extra k : ℕ) (bs : List ℕ) (w : ℕ) → restSum extra (putWord bs (2 * k) w) (2 * k) ≡ restSum extra bs (2 * k)
+fresh-there extra k bs w = ap (λ xs. extra + wordSum xs) (put-put bs (2 * k) w 0)
+
+pub right-there : (extra k : ℕ) (bs : List ℕ) (w : ℕ) → 2 * k + 1 < length bs → right (restSum extra bs (2 * k) + w) ≡ true →
+    right (extra + wordSum (putWord bs (2 * k) w)) ≡ true
+right-there extra k bs w h r =
+    let e : restSum extra bs (2 * k) + w ≡ extra + wordSum (putWord bs (2 * k) w) =
+        omega (arith, sum-put k bs w h, left-out k bs h) in
+    rw e at r
