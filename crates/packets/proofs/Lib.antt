@@ -3,3 +3,5 @@ pub mod Bodies
 pub mod Readable
 pub mod Accepted
 pub mod Halves
+pub mod SentHeaders
+pub mod SentBodies

@@ -5,7 +5,7 @@ use mathlib.Core.Bool.{true, cond}
 use Prim.Native.Nat.{ℕ, zero, suc, _+_, _-_, _*_, _/_, _%_, _≤_, _<_, _^_}
 use native.Mathlib.Omega.{arith}
 use lib.Dec.{eqb}
-use Rattle.std.proofs.shelf.Tests.{eqb-true, eq-eqb}
+use Rattle.std.proofs.shelf.Tests.{cond-both, eqb-true, eq-eqb}
 use Rattle.sums.specs.Sums.{ones, fresh, right, moved, nonzero}
 
 -- what `ones` is, in one line for 0 and in one for the others
@@ -62,3 +62,10 @@ fresh-right s = eq-eqb (ones (s + fresh s)) 65535 (omega (arith, ones-cases s, o
 -- how the code works a moved sum out
 pub moved-folded : (old gone new t : ℕ) → old ≤ 65535 → t ≡ 65535 - old + (65535 - ones gone) + ones new + 65535 → 65535 - ones t ≡ moved old gone new
 moved-folded old gone new t h e = omega (arith, ones-cases gone, ones-cases new, ones-cases t)
+
+-- a right sum stays right in its other spelling
+pub nonzero-right : (s c : ℕ) → right (s + c) ≡ true → right (s + nonzero c) ≡ true
+nonzero-right s c r =
+    cond-both (eqb c 0) 65535 c (λ n. right (s + n) ≡ true)
+        (λ z. eq-eqb (ones (s + 65535)) 65535 (omega (arith, eqb-true c 0 z, eqb-true (ones (s + c)) 65535 r, ones-cases (s + c), ones-cases (s + 65535))))
+        (λ _. r)

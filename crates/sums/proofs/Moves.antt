@@ -64,8 +64,8 @@ pub one-high : (k : ℕ) (bs : List ℕ) (b : ℕ) → 2 * k < length bs → Edi
 one-high k bs b h = record { long = length-set bs (2 * k) b; sum = sum-set k bs b h }
 
 -- a fresh sum in its place: it is that of the list that it stands in, and the list's sum is right
-pub fresh-there : (extra k : ℕ) (bs : List ℕ) (w : ℕ) → restSum extra (putWord bs (2 * k) w) (2 * k) ≡ restSum extra bs (2 * k)
-fresh-there extra k bs w = ap (λ xs. extra + wordSum xs) (put-put bs (2 * k) w 0)
+pub fresh-there : (extra i : ℕ) (bs : List ℕ) (w : ℕ) → restSum extra (putWord bs i w) i ≡ restSum extra bs i
+fresh-there extra i bs w = ap (λ xs. extra + wordSum xs) (put-put bs i w 0)
 
 pub right-there : (extra k : ℕ) (bs : List ℕ) (w : ℕ) → 2 * k + 1 < length bs → right (restSum extra bs (2 * k) + w) ≡ true →
     right (extra + wordSum (putWord bs (2 * k) w)) ≡ true
