@@ -5,3 +5,4 @@ pub mod Accepted
 pub mod Halves
 pub mod SentHeaders
 pub mod SentBodies
+pub mod Again
