@@ -6,3 +6,6 @@ pub mod Halves
 pub mod SentHeaders
 pub mod SentBodies
 pub mod Again
+pub mod Fresh
+pub mod Untouched
+pub mod Back
