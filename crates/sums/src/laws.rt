@@ -1,4 +1,5 @@
 // The theorems about sums, each the contract of a function.
+ghost use Rattle.sums.specs.Examples.{WorkedNumbers};
 ghost use Rattle.sums.specs.Laws.{FreshIsRight, ManyWords, MovedIsFresh, MovedIsOff, MovedToZero, OneWord};
 
 // One changed word, and a list of them, move the sum of all words by what they lose and gain.
@@ -14,5 +15,11 @@ pub fn moved_sums_are_fresh()
     ensures zero { λ _. ⌜ MovedToZero ⌝ }
     ensures off { λ _. ⌜ MovedIsOff ⌝ }
     ensures right { λ _. ⌜ FreshIsRight ⌝ }
+{
+}
+
+// The definitions give the numbers that the standards work out.
+pub fn worked_numbers_agree()
+    ensures { λ _. ⌜ WorkedNumbers ⌝ }
 {
 }
