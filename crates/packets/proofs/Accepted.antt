@@ -3,18 +3,18 @@ use mathlib.Core.Path.{_≡_, refl}
 use mathlib.Core.Bool.{true, false}
 use mathlib.Core.Logic.{inl, inr}
 use mathlib.Core.List.{List}
-use Prim.Native.Nat.{ℕ, _+_, _-_, _≤_}
+use Prim.Native.Nat.{ℕ, _+_, _≤_}
 use native.Mathlib.Nat.{zero-add}
 use native.Mathlib.Omega.{arith}
 use lib.Dec.{eqb}
-use lib.ListN.{length, length-take, length-drop}
+use lib.ListN.{length, length-take}
 use Rattle.std.proofs.shelf.Tests.{or-cases, both-ways}
 use Rattle.std.proofs.shelf.Ways.{tells}
 use Rattle.sums.specs.Words.{wordAt, wordSum}
 use Rattle.sums.specs.Sums.{right}
 use Rattle.packets.specs.declared.facts.Protocol.{Protocol}
 use Rattle.packets.specs.declared.facts.Protocol.the-variants.{Udp, Tcp, Echo}
-use Rattle.packets.specs.Fields.{headerOf, bodyOf, versionAndLength, totalLength, pseudoSum}
+use Rattle.packets.specs.Fields.{headerOf, versionAndLength, totalLength, pseudoSum}
 use Rattle.packets.specs.Reading.{plainHeader, bodyFits, bodyRight}
 use Rattle.packets.specs.Writing.{Besides, besides, hasNoSum, leastOf}
 use Rattle.packets.proofs.Readable.{payloadFor}
@@ -35,8 +35,9 @@ fits-least Echo b e = grind (arith, tells)
 pub right-body : (p : Protocol) (h b : List ℕ) → bodyRight (payloadFor p) h b ≡ true → hasNoSum p b ≡ false → right (besides p h (length b) + wordSum b) ≡ true
 right-body Udp h b e n =
     elim (or-cases (eqb (wordAt b 6) 0) (right (pseudoSum h (length b) + wordSum b)) e) [
-      inl none ↦ absurd (both-ways (eqb (wordAt b 6) 0) n none)
-    | inr r ↦ r ]
+      | inl none ↦ absurd (both-ways (eqb (wordAt b 6) 0) n none)
+      | inr r ↦ r
+    ]
 right-body Tcp h b e n = e
 right-body Echo h b e n = rw zero-add e
 
@@ -47,6 +48,3 @@ besides-fits Echo h n l = refl
 
 pub length-header : (bs : List ℕ) → 20 ≤ length bs → length (headerOf bs) ≡ 20
 length-header bs l = omega (arith, length-take 20 bs)
-
-pub length-body : (bs : List ℕ) → length (bodyOf bs) ≡ length bs - 20
-length-body bs = length-drop 20 bs

@@ -1,9 +1,9 @@
 -- What leaves is read again, with the new facts: its tests pass, and its fields are those put and those left.
 use mathlib.Core.Path.{_≡_, refl, sym, ap, subst, _∙_}
 use mathlib.Core.Bool.{Bool, true, _&&_, _||_}
-use mathlib.Core.Logic.{_≢_, _⊎_, inl, inr}
+use mathlib.Core.Logic.{_⊎_, inl, inr}
 use mathlib.Core.List.{List, _++_}
-use Prim.Native.Nat.{ℕ, _+_, _-_, _*_, _≤_, _<_}
+use Prim.Native.Nat.{ℕ, _+_, _≤_, _<_}
 use native.Mathlib.Nat.{zero-add}
 use native.Mathlib.Omega.{arith}
 use lib.Dec.{eqb}
@@ -11,7 +11,7 @@ use lib.ListN.{length}
 use Rattle.std.proofs.shelf.Lists.{length-append}
 use Rattle.std.proofs.shelf.Tests.{cases-bool, eqb-true, eq-eqb, or-left, or-right}
 use Rattle.std.specs.declared.result.Result.the-variants.{Ok}
-use Rattle.sums.specs.Words.{byteAt, wordAt, longAt, wordSum}
+use Rattle.sums.specs.Words.{byteAt, wordAt, wordSum}
 use Rattle.sums.specs.Sums.{right}
 use Rattle.packets.specs.declared.facts.Protocol.{Protocol}
 use Rattle.packets.specs.declared.facts.Protocol.the-variants.{Udp, Tcp, Echo}
@@ -20,10 +20,10 @@ use Rattle.packets.specs.declared.facts.End.the-variants.{Source, Destination}
 use Rattle.packets.specs.declared.facts.Endpoint.{Endpoint}
 use Rattle.packets.specs.declared.facts.Facts.{Facts}
 use Rattle.packets.specs.declared.facts.Reading.the-variants.{Packet}
-use Rattle.packets.specs.Fields.{headerOf, bodyOf, addressAt, payloadOf, portAt, protocolNumber, pseudoSum, sumAt, timeToLive}
-use Rattle.packets.specs.Reading.{bodyFits, bodyRight, endpointOf, factsOf, isEcho, readOf}
+use Rattle.packets.specs.Fields.{headerOf, bodyOf, payloadOf, portAt, pseudoSum, sumAt}
+use Rattle.packets.specs.Reading.{bodyFits, bodyRight, factsOf, isEcho, readOf}
 use Rattle.packets.specs.Writing.{besides, hasNoSum, leastOf, sent, sentBody, sentHeader}
-use Rattle.packets.specs.Laws.{ReadAgain, otherEnd, otherPort, relocated}
+use Rattle.packets.specs.Laws.{ReadAgain, otherPort, relocated}
 use Rattle.packets.proofs.Readable.{Read, Readable, is-read, isOwn, payloadFor, was-read}
 use Rattle.packets.proofs.Accepted.{fits-least, length-header}
 use Rattle.packets.proofs.Headers.{length-sent-header}
@@ -38,9 +38,9 @@ module _ (extra port : ℕ) (b : List ℕ) where
       wordAt (sentBody p e extra port b) j ≡ wordAt b j
   word-stays p e j out-port out-sum =
       let high : byteAt (sentBody p e extra port b) j ≡ byteAt b j =
-          body-byte p e extra port b j (elim out-port [ inl k ↦ inl (omega arith) | inr k ↦ inr (omega arith) ]) (elim out-sum [ inl k ↦ inl (omega arith) | inr k ↦ inr (omega arith) ]) in
+      body-byte p e extra port b j (elim out-port [ inl k ↦ inl (omega arith) | inr k ↦ inr (omega arith) ]) (elim out-sum [ inl k ↦ inl (omega arith) | inr k ↦ inr (omega arith) ]) in
       let low : byteAt (sentBody p e extra port b) (j + 1) ≡ byteAt b (j + 1) =
-          body-byte p e extra port b (j + 1) (elim out-port [ inl k ↦ inl (omega arith) | inr k ↦ inr (omega arith) ]) (elim out-sum [ inl k ↦ inl (omega arith) | inr k ↦ inr (omega arith) ]) in
+      body-byte p e extra port b (j + 1) (elim out-port [ inl k ↦ inl (omega arith) | inr k ↦ inr (omega arith) ]) (elim out-sum [ inl k ↦ inl (omega arith) | inr k ↦ inr (omega arith) ]) in
       omega arith
 
   -- the other end's port
@@ -97,22 +97,23 @@ right-sent Udp e h port b l =
     let x : ℕ = pseudoSum h (length b) in
     let sum : Bool = right (pseudoSum h (length (sentBody Udp e x port b)) + wordSum (sentBody Udp e x port b)) in
     elim (cases-bool (hasNoSum Udp b)) [
-      inl none ↦
-        or-left (eqb (wordAt (sentBody Udp e x port b) 6) 0) sum
-            (eq-eqb (wordAt (sentBody Udp e x port b) 6) 0 (sum-none Udp e x port b l none ∙ eqb-true (wordAt b 6) 0 none))
-    | inr some ↦
-        or-right (eqb (wordAt (sentBody Udp e x port b) 6) 0) sum
-            (subst (λ n. right (pseudoSum h n + wordSum (sentBody Udp e x port b)) ≡ true) (sym (length-sent-body Udp e x port b)) (sum-right Udp e x port b l some)) ]
+      | inl none ↦
+          or-left (eqb (wordAt (sentBody Udp e x port b) 6) 0) sum
+          (eq-eqb (wordAt (sentBody Udp e x port b) 6) 0 (sum-none Udp e x port b l none ∙ eqb-true (wordAt b 6) 0 none))
+      | inr some ↦
+          or-right (eqb (wordAt (sentBody Udp e x port b) 6) 0) sum
+          (subst (λ n. right (pseudoSum h n + wordSum (sentBody Udp e x port b)) ≡ true) (sym (length-sent-body Udp e x port b)) (sum-right Udp e x port b l some))
+    ]
 right-sent Tcp e h port b l =
     let s : length (sentBody Tcp e (pseudoSum h (length b)) port b) ≡ length b = length-sent-body Tcp e (pseudoSum h (length b)) port b in
     subst (λ n. right (pseudoSum h n + wordSum (sentBody Tcp e (pseudoSum h (length b)) port b)) ≡ true) (sym s)
-        (sum-right Tcp e (pseudoSum h (length b)) port b l refl)
-right-sent Echo e h port b l = rw zero-add at (sum-right Echo e 0 port b l refl)
+    (sum-right Tcp e (pseudoSum h (length b)) port b l refl)
+right-sent Echo e h port b l = rw (zero-add (wordSum (sentBody Echo e 0 port b))) at (sum-right Echo e 0 port b l refl)
 
 -- facts are the same where their parts are
 same-parts : (p : Protocol) {a a′ q q′ d d′ w w′ t t′ : ℕ} → a ≡ a′ → q ≡ q′ → d ≡ d′ → w ≡ w′ → t ≡ t′ →
     _≡_ {A = Facts} (record { protocol = p; source = record { address = a; port = q }; destination = record { address = d; port = w }; ttl = t })
-        (record { protocol = p; source = record { address = a′; port = q′ }; destination = record { address = d′; port = w′ }; ttl = t′ })
+    (record { protocol = p; source = record { address = a′; port = q′ }; destination = record { address = d′; port = w′ }; ttl = t′ })
 same-parts p a q d w t = cc
 
 -- the facts of the packet that leaves
@@ -121,10 +122,10 @@ module _ (n : Endpoint) (h b : List ℕ) (extra : ℕ) (l : length h ≡ 20) whe
       factsOf p (sentHeader e (n .address) h) (sentBody p e extra (n .port) b) ≡ relocated e n (factsOf p h b)
   facts-sent p Source k =
       same-parts p (address-put Source (n .address) h l) (port-put p Source extra (n .port) b k)
-          (address-stays Source (n .address) h) (other-port extra (n .port) b p Source k) (header-ttl Source (n .address) h l)
+      (address-stays Source (n .address) h) (other-port extra (n .port) b p Source k) (header-ttl Source (n .address) h l)
   facts-sent p Destination k =
       same-parts p (address-stays Destination (n .address) h) (other-port extra (n .port) b p Destination k)
-          (address-put Destination (n .address) h l) (port-put p Destination extra (n .port) b k) (header-ttl Destination (n .address) h l)
+      (address-put Destination (n .address) h l) (port-put p Destination extra (n .port) b k) (header-ttl Destination (n .address) h l)
 
 -- the packet that leaves, as its two parts
 abbrev pub headerSent : End → Endpoint → List ℕ → List ℕ
@@ -166,7 +167,8 @@ module _ (bs : List ℕ) (f : Facts) (e : End) (n : Endpoint) (r : Read bs f) wh
         fits = fits-sent x (n .port) b p e (r .tests .fits);
         header = header-right e (n .address) h (length-header bs (r .long));
         body = right-sent p e (headerSent e n bs) (n .port) b least-there;
-        own = own-sent x (n .port) b p e (r .tests .own) }
+        own = own-sent x (n .port) b p e (r .tests .own);
+      }
 
   sent-facts : factsOf (f .protocol) (headerSent e n bs) (bodySent (f .protocol) e n bs) ≡ relocated e n f
   sent-facts =
@@ -176,8 +178,8 @@ module _ (bs : List ℕ) (f : Facts) (e : End) (n : Endpoint) (r : Read bs f) wh
   sent-read : readOf (sent (f .protocol) e n bs) ≡ Ok (Packet (relocated e n f))
   sent-read =
       let tests : Readable (f .protocol) (headerOf (sent (f .protocol) e n bs)) (bodyOf (sent (f .protocol) e n bs)) =
-          subst (λ c. Readable (f .protocol) (headerOf (sent (f .protocol) e n bs)) c) (sym body-there)
-              (subst (λ g. Readable (f .protocol) g (bodySent (f .protocol) e n bs)) (sym header-there) sent-tests) in
+      subst (λ c. Readable (f .protocol) (headerOf (sent (f .protocol) e n bs)) c) (sym body-there)
+      (subst (λ g. Readable (f .protocol) g (bodySent (f .protocol) e n bs)) (sym header-there) sent-tests) in
       is-read (sent (f .protocol) e n bs) (f .protocol) sent-long tests
       ∙ (ap (λ g. Ok (Packet (factsOf (f .protocol) g (bodyOf (sent (f .protocol) e n bs))))) header-there
       ∙ (ap (λ c. Ok (Packet (factsOf (f .protocol) (headerSent e n bs) c))) body-there

@@ -1,7 +1,7 @@
 -- A body with a port replaced: its moved sum, spelled as it is sent, is the fresh one.
 use mathlib.Core.Path.{_≡_, refl, sym, ap, _∙_}
 use mathlib.Core.Bool.{Bool, true, false, cond, _&&_}
-use mathlib.Core.Logic.{_≢_, _⊎_, inl, inr}
+use mathlib.Core.Logic.{_≢_, inl, inr}
 use mathlib.Core.List.{List}
 use Prim.Native.Nat.{ℕ, _+_, _-_, _*_, _≤_, _<_}
 use native.Mathlib.Omega.{arith}
@@ -10,7 +10,7 @@ use lib.ListN.{length}
 use Rattle.std.proofs.shelf.Tests.{cases-eq, cases-bool, cond-both, cond-false, cond-true, eqb-true}
 use Rattle.std.proofs.shelf.Ways.{tells}
 use Rattle.sums.specs.Words.{wordAt, putWord, wordSum}
-use Rattle.sums.specs.Sums.{ones, fresh, right, moved, nonzero, restSum}
+use Rattle.sums.specs.Sums.{fresh, right, moved, restSum}
 use Rattle.sums.proofs.Carries.{ones-none}
 use Rattle.sums.proofs.Edits.{length-put, put-put, word-apart}
 use Rattle.sums.proofs.Moves.{one-word, moved-is-fresh, moved-to-zero}
@@ -31,8 +31,9 @@ module _ (b : List ℕ) (port before after : ℕ) (r : right (before + wordSum b
   place-moved : (j k : ℕ) → 2 * j + 1 < length b → 2 * k + 1 < length b → k ≢ j →
       Moved (moved (wordAt b (2 * k)) (before + wordAt b (2 * j)) (after + port)) (restSum after (putWord b (2 * j) port) (2 * k))
   place-moved j k lj lk ne = record {
-      some = moved-is-fresh k b (putWord b (2 * j) port) (wordAt b (2 * j)) port before after lk (one-word j b port lj) (word-apart b j port k ne) r;
-      none = moved-to-zero k b (putWord b (2 * j) port) (wordAt b (2 * j)) port before after lk (one-word j b port lj) (word-apart b j port k ne) r }
+    some = moved-is-fresh k b (putWord b (2 * j) port) (wordAt b (2 * j)) port before after lk (one-word j b port lj) (word-apart b j port k ne) r;
+    none = moved-to-zero k b (putWord b (2 * j) port) (wordAt b (2 * j)) port before after lk (one-word j b port lj) (word-apart b j port k ne) r;
+  }
 
   pub body-moved : (p : Protocol) (e : End) → leastOf p ≤ length b →
       Moved (moved (wordAt b (sumAt p)) (before + wordAt b (portAt p e)) (after + port)) (restSum after (putWord b (portAt p e) port) (sumAt p))
@@ -53,21 +54,23 @@ settled Tcp m extra t h v =
     elim (cases-eq m 0) [ inl z ↦ grind (arith, tells) | inr z ↦ grind (arith, tells) ]
 settled Echo m extra t h v =
     elim (cases-eq t 0) [
-      inl z ↦
-        let none : extra + t ≡ 0 = omega arith in
-        let whole : fresh (extra + t) ≡ 65535 = ap fresh none ∙ ap (λ n. 65535 - n) ones-none in
-        let zero : m ≡ 0 = v .none none in
-        grind (arith, tells)
-    | inr z ↦
-        let e : m ≡ fresh (extra + t) = v .some (omega arith) in
-        grind (arith, tells) ]
+      | inl z ↦
+          let none : extra + t ≡ 0 = omega arith in
+          let whole : fresh (extra + t) ≡ 65535 = ap fresh none ∙ ap (λ n. 65535 - n) ones-none in
+          let zero : m ≡ 0 = v .none none in
+          grind (arith, tells)
+      | inr z ↦
+          let e : m ≡ fresh (extra + t) = v .some (omega arith) in
+          grind (arith, tells)
+    ]
 
 -- the sum being in place, it counts in the words only where it is not 0
 in-place : (p : Protocol) (c : List ℕ) (i m : ℕ) → (eqb m 0 && isSpelledOut p (wordSum (putWord c i m))) ≡ (eqb m 0 && isSpelledOut p (wordSum (putWord c i 0)))
 in-place p c i m =
     elim (cases-bool (eqb m 0)) [
-      inl z ↦ ap (λ n. eqb m 0 && isSpelledOut p (wordSum (putWord c i n))) (eqb-true m 0 z)
-    | inr z ↦ rw z refl ]
+      | inl z ↦ ap (λ n. eqb m 0 && isSpelledOut p (wordSum (putWord c i n))) (eqb-true m 0 z)
+      | inr z ↦ rw z refl
+    ]
 
 -- the body that is sent, from the sum that the code puts
 pub body-sent : (p : Protocol) (e : End) (b : List ℕ) (port before after : ℕ) → leastOf p ≤ length b → Besides p after →
@@ -80,7 +83,7 @@ body-sent p e b port before after long besides summed r m x me xe =
     let t : ℕ = wordSum (putWord c (sumAt p) 0) in
     let v : Moved m (after + t) = rw me (body-moved b port before after r p e long) in
     let is : x ≡ spelled p (fresh (after + t)) =
-        xe ∙ (ap (λ z. cond z 65535 m) (in-place p c (sumAt p) m) ∙ sym (settled p m after t besides v)) in
+    xe ∙ (ap (λ z. cond z 65535 m) (in-place p c (sumAt p) m) ∙ sym (settled p m after t besides v)) in
     ap (λ w. putWord c (sumAt p) w) is
     ∙ sym (cond-false (hasNoSum p b) c (putWord c (sumAt p) (spelled p (fresh (after + t)))) summed)
 
@@ -94,7 +97,6 @@ module _ (p : Protocol) (e : End) (b : List ℕ) (port before after : ℕ) (long
     (m-is : m ≡ moved old (before + out) (after + port))
     (summing-is : summing ≡ putWord ported place m)
     (z-is : z ≡ (eqb m 0 && isSpelledOut p (wordSum summing))) where
-
   old-there : old ≡ wordAt b (sumAt p)
   old-there = old-is ∙ ap (λ i. wordAt b i) place-is
 
@@ -129,5 +131,5 @@ length-sent-body p e extra port b =
     let c : List ℕ = putWord b (portAt p e) port in
     let s : ℕ = spelled p (fresh (restSum extra c (sumAt p))) in
     cond-both (hasNoSum p b) c (putWord c (sumAt p) s) (λ xs. length xs ≡ length b)
-        (λ _. length-put b (portAt p e) port)
-        (λ _. length-put c (sumAt p) s ∙ length-put b (portAt p e) port)
+    (λ _. length-put b (portAt p e) port)
+    (λ _. length-put c (sumAt p) s ∙ length-put b (portAt p e) port)

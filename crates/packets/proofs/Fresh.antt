@@ -1,9 +1,8 @@
 -- Every sum of what leaves is fresh.
-use mathlib.Core.Path.{_≡_, refl, sym, ap, subst, _∙_}
-use mathlib.Core.Bool.{true, false}
+use mathlib.Core.Path.{_≡_, sym, ap, subst, _∙_}
+use mathlib.Core.Bool.{true}
 use mathlib.Core.List.{List}
 use Prim.Native.Nat.{ℕ}
-use native.Mathlib.Omega.{arith}
 use lib.ListN.{length}
 use Rattle.std.proofs.shelf.Tests.{eqb-true, false≢true}
 use Rattle.sums.specs.Words.{wordAt}
@@ -14,7 +13,7 @@ use Rattle.packets.specs.declared.facts.End.{End}
 use Rattle.packets.specs.declared.facts.Endpoint.{Endpoint}
 use Rattle.packets.specs.declared.facts.Facts.{Facts}
 use Rattle.packets.specs.Fields.{headerOf, bodyOf, sumAt}
-use Rattle.packets.specs.Writing.{besides, hasNoSum, isAbsent, sent, spelled}
+use Rattle.packets.specs.Writing.{besides, isAbsent, sent, spelled}
 use Rattle.packets.specs.Laws.{FreshSums, SumsAreFresh}
 use Rattle.packets.proofs.Readable.{Read, was-read}
 use Rattle.packets.proofs.Accepted.{length-header}
@@ -41,12 +40,13 @@ module _ (bs : List ℕ) (f : Facts) (e : End) (n : Endpoint) (r : Read bs f) wh
       record {
         header = subst (λ g. wordAt g 10 ≡ fresh (restSum 0 g 10)) (sym (header-there bs f e n r)) (header-fresh e (n .address) (headerOf bs) (length-header bs (r .long)));
         body = λ some.
-          let there : Sum H B =
-              sum-fresh p e x (n .port) b (least-there bs f e n r) some ∙ ap (λ k. spelled p (fresh (restSum (besides p H k) B (sumAt p)))) (sym same) in
-          subst (λ g. Sum g (bodyOf (sent p e n bs))) (sym (header-there bs f e n r)) (subst (λ c. Sum H c) (sym (body-there bs f e n r)) there);
+            let there : Sum H B =
+            sum-fresh p e x (n .port) b (least-there bs f e n r) some ∙ ap (λ k. spelled p (fresh (restSum (besides p H k) B (sumAt p)))) (sym same) in
+            subst (λ g. Sum g (bodyOf (sent p e n bs))) (sym (header-there bs f e n r)) (subst (λ c. Sum H c) (sym (body-there bs f e n r)) there);
         none = λ none.
-          subst (λ c. wordAt c (sumAt p) ≡ 0) (sym (body-there bs f e n r))
-              (sum-none p e x (n .port) b (least-there bs f e n r) none ∙ absent-zero p (wordAt b (sumAt p)) none) }
+            subst (λ c. wordAt c (sumAt p) ≡ 0) (sym (body-there bs f e n r))
+            (sum-none p e x (n .port) b (least-there bs f e n r) none ∙ absent-zero p (wordAt b (sumAt p)) none);
+      }
 
 pub sums-are-fresh : SumsAreFresh
 sums-are-fresh bs f e n read = parts-fresh bs f e n (was-read bs f read)

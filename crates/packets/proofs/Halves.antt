@@ -1,7 +1,7 @@
 -- A packet as its header and its body, each taken out and written back.
-use mathlib.Core.Path.{_≡_, sym, ap, _∙_}
+use mathlib.Core.Path.{_≡_, ap, _∙_}
 use mathlib.Core.List.{List, [], _++_}
-use Prim.Native.Nat.{ℕ, _+_, _-_, _≤_}
+use Prim.Native.Nat.{ℕ, _-_}
 use native.Mathlib.Omega.{arith}
 use lib.ListN.{length, take, drop}
 use borrow.Rule.Slice.PartMut.{putMid}
@@ -20,6 +20,6 @@ module _ (h b : List ℕ) (l : length h ≡ 20) where
   pub body-back : (c : List ℕ) → putMid 20 (length (h ++ b) - 20) (h ++ b) c ≡ h ++ c
   body-back c =
       let none : drop (length (h ++ b) - 20) (drop 20 (h ++ b)) ≡ [] =
-          ap (λ xs. drop (length (h ++ b) - 20) xs) body-out ∙ drop-all (length (h ++ b) - 20) b (omega (arith, length-append h b)) in
+      ap (λ xs. drop (length (h ++ b) - 20) xs) body-out ∙ drop-all (length (h ++ b) - 20) b (omega (arith, length-append h b)) in
       ap (λ xs. xs ++ (c ++ drop (length (h ++ b) - 20) (drop 20 (h ++ b)))) header-out
       ∙ (ap (λ xs. h ++ (c ++ xs)) none ∙ ap (λ xs. h ++ xs) (append-nil c))

@@ -3,7 +3,7 @@ use mathlib.Core.Path.{_≡_, sym, ap, _∙_}
 use mathlib.Core.Bool.{true}
 use mathlib.Core.Logic.{_≢_}
 use mathlib.Core.List.{List}
-use Prim.Native.Nat.{ℕ, _+_, _-_, _*_, _/_, _%_, _≤_, _<_}
+use Prim.Native.Nat.{ℕ, _+_, _-_, _*_, _/_, _%_, _<_}
 use native.Mathlib.Nat.{zero-add}
 use native.Mathlib.Omega.{arith}
 use lib.ListN.{length, set}
@@ -12,7 +12,7 @@ use Rattle.sums.specs.Words.{byteAt, wordAt, putWord, putLong, wordSum}
 use Rattle.sums.specs.Sums.{fresh, right, moved, restSum}
 use Rattle.sums.specs.Laws.{Edit}
 use Rattle.sums.proofs.WordSums.{sum-first}
-use Rattle.sums.proofs.Edits.{length-put, byte-other, word-below, word-above}
+use Rattle.sums.proofs.Edits.{length-put, length-put-long, byte-other}
 use Rattle.sums.proofs.Moves.{both-edits, one-high, one-long, moved-is-fresh}
 use Rattle.packets.specs.declared.facts.End.{End}
 use Rattle.packets.specs.declared.facts.End.the-variants.{Source, Destination}
@@ -35,13 +35,13 @@ module _ (a : ℕ) (h : List ℕ) where
 
   place-edit : (k : ℕ) → 11 < 2 * k → 2 * k + 3 < length h →
       Edit h (putLong (set h 8 (timeToLive h - 1)) (2 * k) a) (timeToLive h * 256 + (wordAt h (2 * k) + wordAt h (2 * k + 2)))
-          ((timeToLive h - 1) * 256 + (a / 65536 + a % 65536))
+      ((timeToLive h - 1) * 256 + (a / 65536 + a % 65536))
   place-edit k behind within =
       let low : List ℕ = set h 8 (timeToLive h - 1) in
       let long : 2 * k + 3 < length low = omega (arith, length-set h 8 (timeToLive h - 1)) in
       let whole : Edit h (putLong low (2 * k) a) (timeToLive h * 256 + (wordAt low (2 * k) + wordAt low (2 * k + 2)))
-          ((timeToLive h - 1) * 256 + (a / 65536 + a % 65536)) =
-          both-edits (one-high 4 h (timeToLive h - 1) (omega arith)) (one-long k low a long) in
+      ((timeToLive h - 1) * 256 + (a / 65536 + a % 65536)) =
+      both-edits (one-high 4 h (timeToLive h - 1) (omega arith)) (one-long k low a long) in
       record { long = whole .long; sum = omega (arith, whole .sum, word-lowered h (timeToLive h - 1) (2 * k) (omega arith), word-lowered h (timeToLive h - 1) (2 * k + 2) (omega arith)) }
 
 pub byte-stays : (e : End) (a : ℕ) (h : List ℕ) (j : ℕ) → j ≢ 8 → j < 12 → byteAt (readdressed e a h) j ≡ byteAt h j
@@ -50,14 +50,14 @@ byte-stays Destination a h j ne below = place-byte a h 8 j (omega arith) ne belo
 
 pub readdressed-edit : (e : End) (a : ℕ) (h : List ℕ) → length h ≡ 20 →
     Edit h (readdressed e a h) (timeToLive h * 256 + (wordAt h (addressAt e) + wordAt h (addressAt e + 2)))
-        ((timeToLive h - 1) * 256 + (a / 65536 + a % 65536))
+    ((timeToLive h - 1) * 256 + (a / 65536 + a % 65536))
 readdressed-edit Source a h l = place-edit a h 6 (omega arith) (omega arith)
 readdressed-edit Destination a h l = place-edit a h 8 (omega arith) (omega arith)
 
 -- the moved sum of the header is the fresh one
 pub header-moved : (e : End) (a : ℕ) (h : List ℕ) → length h ≡ 20 → versionAndLength h ≡ 0x45 → right (wordSum h) ≡ true →
     moved (wordAt (readdressed e a h) 10) (timeToLive h * 256 + (wordAt h (addressAt e) + wordAt h (addressAt e + 2)))
-        ((timeToLive h - 1) * 256 + (a / 65536 + a % 65536))
+    ((timeToLive h - 1) * 256 + (a / 65536 + a % 65536))
     ≡ fresh (restSum 0 (readdressed e a h) 10)
 header-moved e a h l v r =
     let g : List ℕ = readdressed e a h in
@@ -67,19 +67,17 @@ header-moved e a h l v r =
     let low : byteAt g 11 ≡ byteAt h 11 = byte-stays e a h 11 (omega arith) (omega arith) in
     let same : wordAt g 10 ≡ wordAt h 10 = omega arith in
     let first : byteAt (putWord g 10 0) 0 ≡ 0x45 =
-        byte-other g 10 0 0 (omega arith) (omega arith) ∙ (byte-stays e a h 0 (omega arith) (omega arith) ∙ v) in
+    byte-other g 10 0 0 (omega arith) (omega arith) ∙ (byte-stays e a h 0 (omega arith) (omega arith) ∙ v) in
     let some : 0 < restSum 0 g 10 = omega (arith, sum-first (putWord g 10 0)) in
     let whole : right (0 + wordSum h) ≡ true = rw zero-add r in
     let at-ten : 2 * 5 + 1 < length h = omega arith in
     let law : moved (wordAt h 10) (0 + gone) (0 + new) ≡ fresh (restSum 0 g 10) =
-        moved-is-fresh 5 h g gone new 0 0 at-ten (readdressed-edit e a h l) same whole some in
+    moved-is-fresh 5 h g gone new 0 0 at-ten (readdressed-edit e a h l) same whole some in
     ap (λ w. moved w gone new) same
     ∙ (ap (λ x. moved (wordAt h 10) x new) (sym (zero-add gone)) ∙ (ap (λ x. moved (wordAt h 10) (0 + gone) x) (sym (zero-add new)) ∙ law))
 
 pub length-readdressed : (e : End) (a : ℕ) (h : List ℕ) → length (readdressed e a h) ≡ length h
-length-readdressed e a h =
-    length-put (putWord (set h 8 (timeToLive h - 1)) (addressAt e) (a / 65536)) (addressAt e + 2) (a % 65536)
-    ∙ (length-put (set h 8 (timeToLive h - 1)) (addressAt e) (a / 65536) ∙ length-set h 8 (timeToLive h - 1))
+length-readdressed e a h = length-put-long (set h 8 (timeToLive h - 1)) (addressAt e) a ∙ length-set h 8 (timeToLive h - 1)
 
 pub length-sent-header : (e : End) (a : ℕ) (h : List ℕ) → length (sentHeader e a h) ≡ length h
 length-sent-header e a h = length-put (readdressed e a h) 10 (fresh (restSum 0 (readdressed e a h) 10)) ∙ length-readdressed e a h

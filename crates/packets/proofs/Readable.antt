@@ -2,7 +2,7 @@
 use mathlib.Core.Path.{_≡_, refl, ap, subst, _∙_}
 use mathlib.Core.Bool.{Bool, true, false, cond, _&&_}
 use mathlib.Core.List.{List}
-use Prim.Native.Nat.{ℕ, _≤_, _<_}
+use Prim.Native.Nat.{ℕ, _≤_}
 use native.Mathlib.Omega.{arith}
 use lib.Dec.{leb}
 use lib.ListN.{length}
@@ -21,7 +21,7 @@ use Rattle.packets.specs.declared.facts.Facts.{Facts}
 use Rattle.packets.specs.declared.facts.Reading.{Reading}
 use Rattle.packets.specs.declared.facts.Reading.the-variants.{Packet, Error}
 use Rattle.packets.specs.Fields.{headerOf, bodyOf, payloadOf, protocolNumber}
-use Rattle.packets.specs.Reading.{plainHeader, bodyFits, bodyRight, factsOf, headingOf, isEcho, isError, messageOf, namedOf, readAs, readOf}
+use Rattle.packets.specs.Reading.{plainHeader, bodyFits, bodyRight, factsOf, headingOf, isEcho, isError, namedOf, readAs, readOf}
 
 abbrev pub payloadFor : Protocol → Payload
 payloadFor Udp = Datagram
@@ -101,8 +101,10 @@ was-read bs f e =
         fits = subst (λ v. bodyFits v b ≡ true) (name .payload) (and-parts (plainHeader h b) (bodyFits y b) (second .0) .1);
         header = and-parts (right (wordSum h)) (bodyRight y h b) (third .0) .0;
         body = subst (λ v. bodyRight v h b ≡ true) (name .payload) (and-parts (right (wordSum h)) (bodyRight y h b) (third .0) .1);
-        own = name .own };
-      facts = name .facts }
+        own = name .own;
+      };
+      facts = name .facts;
+    }
 
 -- and one that passes every test is read
 pub is-read : (bs : List ℕ) (p : Protocol) → 20 ≤ length bs → Readable p (headerOf bs) (bodyOf bs) → readOf bs ≡ Ok (Packet (factsOf p (headerOf bs) (bodyOf bs)))

@@ -1,14 +1,12 @@
 -- Laws of a body as it is sent: what is read from it, and that its sum is fresh and right.
 use mathlib.Core.Path.{_≡_, refl, sym, ap, subst, _∙_}
-use mathlib.Core.Bool.{Bool, true, false, cond}
-use mathlib.Core.Logic.{_≢_, _⊎_, inl, inr}
+use mathlib.Core.Bool.{true, false}
+use mathlib.Core.Logic.{_≢_, _⊎_}
 use mathlib.Core.List.{List}
 use Prim.Native.Nat.{ℕ, _+_, _*_, _≤_, _<_}
-use native.Mathlib.Nat.{zero-add}
 use native.Mathlib.Omega.{arith}
-use lib.Dec.{eqb}
 use lib.ListN.{length}
-use Rattle.std.proofs.shelf.Tests.{cases-bool, cond-both, cond-false, cond-true, or-left, or-right}
+use Rattle.std.proofs.shelf.Tests.{cond-both, cond-false, cond-true}
 use Rattle.sums.specs.Words.{byteAt, wordAt, putWord, wordSum}
 use Rattle.sums.specs.Sums.{fresh, right, restSum}
 use Rattle.sums.proofs.Carries.{fresh-right, nonzero-right}
@@ -53,8 +51,8 @@ module _ (p : Protocol) (e : End) (extra port : ℕ) (b : List ℕ) where
       let s : ℕ = spelled p (fresh (restSum extra c (sumAt p))) in
       let ported : byteAt c j ≡ byteAt b j = byte-other b (portAt p e) port j (omega arith) (omega arith) in
       cond-both (hasNoSum p b) c (putWord c (sumAt p) s) (λ xs. byteAt xs j ≡ byteAt b j)
-          (λ _. ported)
-          (λ _. byte-other c (sumAt p) s j (omega arith) (omega arith) ∙ ported)
+      (λ _. ported)
+      (λ _. byte-other c (sumAt p) s j (omega arith) (omega arith) ∙ ported)
 
   module _ (l : leastOf p ≤ length b) where
     -- the port put is read back
@@ -66,8 +64,8 @@ module _ (p : Protocol) (e : End) (extra port : ℕ) (b : List ℕ) where
         let there : wordAt c (portAt p e) ≡ port = word-same b (portAt p e) port (omega (arith, q .port-is, q .port-within)) in
         let still : wordAt (putWord c (2 * q .sum) s) (2 * q .port) ≡ wordAt c (2 * q .port) = word-apart c (q .sum) s (q .port) (λ same. q .apart (sym same)) in
         let kept : wordAt (putWord c (sumAt p) s) (portAt p e) ≡ wordAt c (portAt p e) =
-            subst (λ i. wordAt (putWord c i s) (portAt p e) ≡ wordAt c (portAt p e)) (sym (q .sum-is))
-                (subst (λ i. wordAt (putWord c (2 * q .sum) s) i ≡ wordAt c i) (sym (q .port-is)) still) in
+        subst (λ i. wordAt (putWord c i s) (portAt p e) ≡ wordAt c (portAt p e)) (sym (q .sum-is))
+        (subst (λ i. wordAt (putWord c (2 * q .sum) s) i ≡ wordAt c i) (sym (q .port-is)) still) in
         cond-both (hasNoSum p b) c (putWord c (sumAt p) s) (λ xs. wordAt xs (portAt p e) ≡ port) (λ _. there) (λ _. kept ∙ there)
 
     -- the sum is fresh, in the spelling in which it is sent
@@ -80,7 +78,7 @@ module _ (p : Protocol) (e : End) (extra port : ℕ) (b : List ℕ) where
         let within : sumAt p + 1 < length c = omega (arith, q .sum-is, q .sum-within, length-put b (portAt p e) port) in
         let P : List ℕ → Type 0 = λ xs. wordAt xs (sumAt p) ≡ spelled p (fresh (restSum extra xs (sumAt p))) in
         subst P (sym (cond-false (hasNoSum p b) c (putWord c (sumAt p) s) n))
-            (word-same c (sumAt p) s within ∙ ap (λ r. spelled p (fresh r)) (sym (fresh-there extra (sumAt p) c s)))
+        (word-same c (sumAt p) s within ∙ ap (λ r. spelled p (fresh r)) (sym (fresh-there extra (sumAt p) c s)))
 
     -- and so it is right
     pub sum-right : hasNoSum p b ≡ false → right (extra + wordSum (sentBody p e extra port b)) ≡ true
@@ -90,8 +88,8 @@ module _ (p : Protocol) (e : End) (extra port : ℕ) (b : List ℕ) where
         let P : List ℕ → Type 0 = λ xs. right (extra + wordSum xs) ≡ true in
         let Q : ℕ → Type 0 = λ i. right (extra + wordSum (putWord c i (spelled p (fresh (restSum extra c i))))) ≡ true in
         let there : Q (2 * q .sum) =
-            right-there extra (q .sum) c (spelled p (fresh (restSum extra c (2 * q .sum)))) (omega (arith, q .sum-within, length-put b (portAt p e) port))
-                (spelled-right p (restSum extra c (2 * q .sum))) in
+        right-there extra (q .sum) c (spelled p (fresh (restSum extra c (2 * q .sum)))) (omega (arith, q .sum-within, length-put b (portAt p e) port))
+        (spelled-right p (restSum extra c (2 * q .sum))) in
         subst P (sym (cond-false (hasNoSum p b) c (putWord c (sumAt p) (spelled p (fresh (restSum extra c (sumAt p))))) n)) (subst Q (sym (q .sum-is)) there)
 
     -- a sum that is not there stays so
@@ -101,5 +99,5 @@ module _ (p : Protocol) (e : End) (extra port : ℕ) (b : List ℕ) where
         let c : List ℕ = putWord b (portAt p e) port in
         let Q : ℕ → ℕ → Type 0 = λ i k. wordAt (putWord b i port) k ≡ wordAt b k in
         let there : Q (portAt p e) (sumAt p) =
-            subst (λ i. Q i (sumAt p)) (sym (q .port-is)) (subst (λ k. Q (2 * q .port) k) (sym (q .sum-is)) (word-apart b (q .port) port (q .sum) (q .apart))) in
+        subst (λ i. Q i (sumAt p)) (sym (q .port-is)) (subst (λ k. Q (2 * q .port) k) (sym (q .sum-is)) (word-apart b (q .port) port (q .sum) (q .apart))) in
         subst (λ xs. wordAt xs (sumAt p) ≡ wordAt b (sumAt p)) (sym (cond-true (hasNoSum p b) c (putWord c (sumAt p) (spelled p (fresh (restSum extra c (sumAt p))))) n)) there

@@ -1,5 +1,5 @@
 -- Laws of a header as it is sent: what is read from it, and that its sum is fresh and right.
-use mathlib.Core.Path.{_≡_, refl, sym, ap, _∙_}
+use mathlib.Core.Path.{_≡_, sym, ap, _∙_}
 use mathlib.Core.Bool.{true}
 use mathlib.Core.Logic.{_≢_, _⊎_, inl, inr}
 use mathlib.Core.List.{List}
@@ -11,7 +11,7 @@ use Rattle.std.proofs.shelf.Lists.{getD-set-other, getD-set-same, length-set}
 use Rattle.sums.specs.Words.{byteAt, wordAt, longAt, putWord, putLong, wordSum}
 use Rattle.sums.specs.Sums.{fresh, right, restSum}
 use Rattle.sums.proofs.Carries.{fresh-right}
-use Rattle.sums.proofs.Edits.{byte-apart, byte-other, length-put-long, long-same, word-above, word-same}
+use Rattle.sums.proofs.Edits.{byte-apart, byte-other, long-same, word-above, word-same}
 use Rattle.sums.proofs.Moves.{fresh-there, right-there}
 use Rattle.packets.specs.declared.facts.End.{End}
 use Rattle.packets.specs.declared.facts.End.the-variants.{Source, Destination}
@@ -49,8 +49,8 @@ module _ (e : End) (a : ℕ) (h : List ℕ) where
     pub header-right : right (wordSum (sentHeader e a h)) ≡ true
     header-right =
         let r : right (0 + wordSum (sentHeader e a h)) ≡ true =
-            right-there 0 5 (readdressed e a h) (fresh (restSum 0 (readdressed e a h) 10)) header-ten (fresh-right (restSum 0 (readdressed e a h) 10)) in
-        rw zero-add at r
+        right-there 0 5 (readdressed e a h) (fresh (restSum 0 (readdressed e a h) 10)) header-ten (fresh-right (restSum 0 (readdressed e a h) 10)) in
+        rw (zero-add (wordSum (sentHeader e a h))) at r
 
 -- what stands before the sum, but for the time to live, stays
 pub low-byte : (e : End) (a : ℕ) (h : List ℕ) (j : ℕ) → j ≢ 8 → j < 10 → byteAt (sentHeader e a h) j ≡ byteAt h j
@@ -85,9 +85,14 @@ address-put Destination a h l = put-there a (fresh (restSum 0 (readdressed Desti
 stays-there : (e : End) (a : ℕ) (h : List ℕ) (at : ℕ) → 11 < at → (at + 3 < addressAt e) ⊎ (addressAt e + 3 < at) → longAt (sentHeader e a h) at ≡ longAt h at
 stays-there e a h at behind apart =
     let stays : (j : ℕ) → at ≤ j → j < at + 4 → byteAt (sentHeader e a h) j ≡ byteAt h j =
-        λ j low high. header-byte e a h j (omega arith) (inr (omega arith)) (elim apart [ inl below ↦ inl (omega arith) | inr above ↦ inr (omega arith) ]) in
-    omega (arith, stays at (omega arith) (omega arith), stays (at + 1) (omega arith) (omega arith),
-        stays (at + 2) (omega arith) (omega arith), stays (at + 2 + 1) (omega arith) (omega arith))
+    λ j low high. header-byte e a h j (omega arith) (inr (omega arith)) (elim apart [ inl below ↦ inl (omega arith) | inr above ↦ inr (omega arith) ]) in
+    omega (
+      arith,
+      stays at (omega arith) (omega arith),
+      stays (at + 1) (omega arith) (omega arith),
+      stays (at + 2) (omega arith) (omega arith),
+      stays (at + 2 + 1) (omega arith) (omega arith),
+    )
 
 abbrev pub opposite : End → End
 opposite Source = Destination

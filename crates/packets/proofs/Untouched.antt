@@ -1,22 +1,22 @@
 -- What leaves differs from what came in no byte besides those named, and in no length.
-use mathlib.Core.Path.{_≡_, refl, sym, ap, subst, _∙_}
-use mathlib.Core.Bool.{Bool, true, false, _||_}
+use mathlib.Core.Path.{_≡_, ap, _∙_}
+use mathlib.Core.Bool.{Bool, false, _||_}
 use mathlib.Core.Logic.{_≢_, _⊎_, inl, inr}
 use mathlib.Core.List.{List, _++_}
 use Prim.Native.Nat.{ℕ, _+_, _-_, _≤_, _<_}
 use native.Mathlib.Omega.{arith}
 use lib.Dec.{eqb, leb, ltb}
-use lib.ListN.{length, getD}
+use lib.ListN.{length}
 use Rattle.std.proofs.shelf.Lists.{getD-append-left, getD-append-right, getD-drop, getD-take, length-append, length-drop}
-use Rattle.std.proofs.shelf.Tests.{and-cases, cases-lt, eqb-false, leb-false, ltb-false, or-parts}
+use Rattle.std.proofs.shelf.Tests.{and-cases, cases-lt, eqb-false, leb-false, ltb-false}
 use Rattle.sums.specs.Words.{byteAt}
 use Rattle.packets.specs.declared.facts.Protocol.{Protocol}
 use Rattle.packets.specs.declared.facts.End.{End}
 use Rattle.packets.specs.declared.facts.Endpoint.{Endpoint}
 use Rattle.packets.specs.declared.facts.Facts.{Facts}
 use Rattle.packets.specs.Fields.{headerOf, bodyOf, addressAt, portAt, sumAt}
-use Rattle.packets.specs.Writing.{besides, sent}
-use Rattle.packets.specs.Laws.{OthersStay, Untouched, isTouched, within}
+use Rattle.packets.specs.Writing.{besides}
+use Rattle.packets.specs.Laws.{OthersStay, isTouched, within}
 use Rattle.packets.proofs.Readable.{Read, was-read}
 use Rattle.packets.proofs.Bodies.{length-sent-body}
 use Rattle.packets.proofs.SentHeaders.{header-byte}
@@ -53,18 +53,24 @@ apart p e j t =
       sum = outside 10 2 j (o .1);
       address = outside (addressAt e) 4 j (o .2);
       port = outside (20 + portAt p e) 2 j (o .3);
-      body = outside (20 + sumAt p) 2 j (o .4) }
+      body = outside (20 + sumAt p) 2 j (o .4);
+    }
 
 module _ (bs : List ℕ) (f : Facts) (e : End) (n : Endpoint) (r : Read bs f) where
   parts-long : length (headerSent e n bs ++ bodySent (f .protocol) e n bs) ≡ length bs
   parts-long =
-      omega (arith, length-append (headerSent e n bs) (bodySent (f .protocol) e n bs), header-long bs f e n r,
-          length-sent-body (f .protocol) e (besides (f .protocol) (headerSent e n bs) (length (bodyOf bs))) (n .port) (bodyOf bs),
-          length-drop 20 bs, r .long)
+      omega (
+        arith,
+        length-append (headerSent e n bs) (bodySent (f .protocol) e n bs),
+        header-long bs f e n r,
+        length-sent-body (f .protocol) e (besides (f .protocol) (headerSent e n bs) (length (bodyOf bs))) (n .port) (bodyOf bs),
+        length-drop 20 bs,
+        r .long,
+      )
 
   parts-byte : (j : ℕ) → Apart (f .protocol) e j → byteAt (headerSent e n bs ++ bodySent (f .protocol) e n bs) j ≡ byteAt bs j
   parts-byte j a = elim (cases-lt j 20) [
-      inl low ↦
+    | inl low ↦
         getD-append-left (headerSent e n bs) (bodySent (f .protocol) e n bs) 0 j (omega (arith, header-long bs f e n r))
         ∙ (header-byte e (n .address) (headerOf bs) j (a .ttl) (above 10 1 j (a .sum)) (above (addressAt e) 3 j (a .address))
         ∙ getD-take 20 bs j 0 low)
@@ -73,12 +79,14 @@ module _ (bs : List ℕ) (f : Facts) (e : End) (n : Endpoint) (r : Read bs f) wh
         let j-is : 20 + k ≡ j = omega arith in
         getD-append-right (headerSent e n bs) (bodySent (f .protocol) e n bs) 20 j 0 (header-long bs f e n r) high
         ∙ (body-byte (f .protocol) e (besides (f .protocol) (headerSent e n bs) (length (bodyOf bs))) (n .port) (bodyOf bs) k
-            (shifted (portAt (f .protocol) e) 1 20 k j j-is (a .port)) (shifted (sumAt (f .protocol)) 1 20 k j j-is (a .body))
-        ∙ (getD-drop 20 bs k 0 ∙ ap (λ i. byteAt bs i) j-is)) ]
+        (shifted (portAt (f .protocol) e) 1 20 k j j-is (a .port)) (shifted (sumAt (f .protocol)) 1 20 k j j-is (a .body))
+        ∙ (getD-drop 20 bs k 0 ∙ ap (λ i. byteAt bs i) j-is))
+  ]
 
 pub others-stay : OthersStay
 others-stay bs f e n read =
     let r : Read bs f = was-read bs f read in
     record {
       long = ap length (sent-parts (f .protocol) e n bs) ∙ parts-long bs f e n r;
-      bytes = λ j t. ap (λ xs. byteAt xs j) (sent-parts (f .protocol) e n bs) ∙ parts-byte bs f e n r j (apart (f .protocol) e j t) }
+      bytes = λ j t. ap (λ xs. byteAt xs j) (sent-parts (f .protocol) e n bs) ∙ parts-byte bs f e n r j (apart (f .protocol) e j t);
+    }

@@ -1,10 +1,10 @@
 -- The fields of a packet by name, over its header (the first 20 bytes) and its body (the rest).
-use mathlib.Core.Bool.{Bool, cond}
+use mathlib.Core.Bool.{cond}
 use mathlib.Core.List.{List}
 use Prim.Native.Nat.{ℕ, _+_, _/_, _%_}
 use lib.Dec.{eqb}
 use lib.ListN.{take, drop}
-use Rattle.sums.specs.Words.{byteAt, wordAt, longAt}
+use Rattle.sums.specs.Words.{byteAt, wordAt}
 use Rattle.packets.specs.declared.facts.Payload.{Payload}
 use Rattle.packets.specs.declared.facts.Payload.the-variants.{Datagram, Segment, Message, Other}
 use Rattle.packets.specs.declared.facts.Protocol.{Protocol}

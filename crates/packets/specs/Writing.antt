@@ -10,7 +10,6 @@ use Rattle.sums.specs.Sums.{fresh, nonzero, restSum}
 use Rattle.packets.specs.declared.facts.Protocol.{Protocol}
 use Rattle.packets.specs.declared.facts.Protocol.the-variants.{Udp, Tcp, Echo}
 use Rattle.packets.specs.declared.facts.End.{End}
-use Rattle.packets.specs.declared.facts.End.the-variants.{Source, Destination}
 use Rattle.packets.specs.declared.facts.Endpoint.{Endpoint}
 use Rattle.packets.specs.Fields.{headerOf, bodyOf, timeToLive, addressAt, portAt, sumAt, pseudoSum}
 

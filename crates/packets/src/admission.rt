@@ -1,7 +1,6 @@
 // The last tests of a packet that was read: whose it is, and whether it may go on.
 ghost use Rattle.packets.specs.Reading.{admittedOf, destinationOf, sourceOf, ttlOf};
 ghost use mathlib.Core.Path.{_≡_};
-
 use crate::facts::Reading;
 use blocks::refusal::Refusal;
 

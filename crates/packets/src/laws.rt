@@ -6,11 +6,9 @@ pub fn written_packets_are_right()
     ensures again { λ _. ⌜ ReadAgain ⌝ }
     ensures fresh { λ _. ⌜ SumsAreFresh ⌝ }
     ensures others { λ _. ⌜ OthersStay ⌝ }
-{
-}
+{}
 
 // An answer to what went out comes back to where that came from.
 pub fn answers_come_back()
     ensures { λ _. ⌜ OutAndBack ⌝ }
-{
-}
+{}

@@ -1,8 +1,8 @@
 // Where the fields stand that are replaced, and the sums that cover them.
 ghost use Rattle.packets.specs.Fields.{addressAt, portAt, sumAt};
 ghost use mathlib.Core.Path.{_≡_};
-
-use crate::facts::{End, Protocol};
+use crate::facts::End;
+use crate::facts::Protocol;
 
 // Where an end's address stands in the header.
 pub fn address_at(end: End) -> usize

@@ -1,17 +1,25 @@
 // Reading a packet: its facts, or the refusal with the lowest number that applies.
 ghost use Prim.Native.Nat.{_*_, _<_, _≤_, _^_};
-ghost use Rattle.packets.specs.Fields.{leastBody, payloadOf, portAt, protocolNumber, pseudoSum};
+ghost use Rattle.packets.specs.Fields.{leastBody, payloadOf, pseudoSum};
 ghost use Rattle.packets.specs.Reading.{bodyFits, bodyRight, endpointOf, factsOf, headingOf, messageOf, namedOf, plainHeader, readAs, readOf};
 ghost use lib.Dec.{leb};
 ghost use lib.ListN.{length};
 ghost use mathlib.Core.Bool.{_&&_, true};
 ghost use mathlib.Core.Path.{_≡_};
-
-use crate::facts::{End, Endpoint, Facts, Heading, Payload, Protocol, Reading};
-use crate::places::{address_at, port_at};
+use crate::facts::End;
+use crate::facts::Endpoint;
+use crate::facts::Facts;
+use crate::facts::Heading;
+use crate::facts::Payload;
+use crate::facts::Protocol;
+use crate::facts::Reading;
+use crate::places::address_at;
+use crate::places::port_at;
 use blocks::refusal::Refusal;
-use sums::words::{long_at, word_at};
-use sums::{is_right, word_sum};
+use sums::is_right;
+use sums::word_sum;
+use sums::words::long_at;
+use sums::words::word_at;
 
 // What the packet of these bytes is, or why it is refused.
 pub fn read(packet: &[u8]) -> Result<Reading, Refusal>
@@ -54,7 +62,9 @@ fn is_plain(header: &[u8], body: &[u8]) -> bool
     ensures is { λ r. ⌜ r ≡ plainHeader (now (header .entry)) (now (body .entry)) ⌝ }
     ensures short { λ r. ⌜ (r ≡ true → length (now (body .entry)) < 65516) ⌝ }
 {
-    header[0] == 0x45 && usize::from(word_at(header, 2)) == 20 + body.len() && word_at(header, 6) % 0x4000 == 0
+    header[0] == 0x45
+        && usize::from(word_at(header, 2)) == 20 + body.len()
+        && word_at(header, 6) % 0x4000 == 0
 }
 
 fn body_fits(payload: Payload, body: &[u8]) -> bool
@@ -77,7 +87,7 @@ fn is_offset_within(offset: u8, length: usize) -> bool
 }
 
 // The plain sum of the pseudo-header of a body of `count` bytes.
-pub fn pseudo_sum(header: &[u8], count: u16) -> u32
+pub(crate) fn pseudo_sum(header: &[u8], count: u16) -> u32
     requires { ⌜ length (now header) ≡ 20 ⌝ }
     ensures is { λ r. ⌜ r ≡ pseudoSum (now (header .entry)) count ⌝ }
     ensures small { λ r. ⌜ r < 2 ^ 20 ⌝ }
@@ -92,7 +102,8 @@ fn is_body_right(payload: Payload, header: &[u8], body: &[u8]) -> bool
     ensures { λ r. ⌜ r ≡ bodyRight payload (now (header .entry)) (now (body .entry)) ⌝ }
 {
     match payload {
-        Payload::Datagram => word_at(body, 6) == 0 || is_right(pseudo_sum(header, body.len() as u16) + word_sum(body)),
+        Payload::Datagram => word_at(body, 6) == 0
+            || is_right(pseudo_sum(header, body.len() as u16) + word_sum(body)),
         Payload::Segment => is_right(pseudo_sum(header, body.len() as u16) + word_sum(body)),
         Payload::Message => is_right(word_sum(body)),
         Payload::Other => true,

@@ -12,12 +12,19 @@ ghost use lib.Dec.{eqb};
 ghost use lib.ListN.{length};
 ghost use mathlib.Core.Bool.{_&&_, false, true};
 ghost use mathlib.Core.Path.{_≡_};
-
-use crate::facts::{End, Endpoint, Facts, Protocol};
-use crate::places::{address_at, port_at, sum_at};
+use crate::facts::End;
+use crate::facts::Endpoint;
+use crate::facts::Facts;
+use crate::facts::Protocol;
+use crate::places::address_at;
+use crate::places::port_at;
+use crate::places::sum_at;
 use crate::reader::pseudo_sum;
-use sums::{move_sum, word_sum};
-use sums::words::{put_long, put_word, word_at};
+use sums::move_sum;
+use sums::word_sum;
+use sums::words::put_long;
+use sums::words::put_word;
+use sums::words::word_at;
 
 // Writes the packet that goes out: its source is now `external`.
 pub fn write_out(packet: &mut [u8], facts: Facts, external: Endpoint)
@@ -44,7 +51,14 @@ fn write(packet: &mut [u8], facts: Facts, end: End, endpoint: Endpoint)
     let before = sum_besides(facts.protocol, &packet[0..20], count);
     write_header(&mut packet[0..20], end, endpoint.address);
     let after = sum_besides(facts.protocol, &packet[0..20], count);
-    write_body(&mut packet[20..], facts.protocol, end, before, after, endpoint.port);
+    write_body(
+        &mut packet[20..],
+        facts.protocol,
+        end,
+        before,
+        after,
+        endpoint.port,
+    );
 }
 
 // What counts in a body's sum besides the body itself.
@@ -67,7 +81,8 @@ fn write_header(header: &mut [u8], end: End, address: u32)
 {
     let at = address_at(end);
     let ttl = header[8].saturating_sub(1);
-    let gone = u32::from(header[8]) * 256 + (u32::from(word_at(header, at)) + u32::from(word_at(header, at + 2)));
+    let gone = u32::from(header[8]) * 256
+        + (u32::from(word_at(header, at)) + u32::from(word_at(header, at + 2)));
     let new = u32::from(ttl) * 256 + (address / 65536 + address % 65536);
     header[8] = ttl;
     put_long(header, at, address);

@@ -1,8 +1,8 @@
 -- Laws of ones' complement sums: carrying around, the one spelling of a sum, and a sum moved by what changed.
-use mathlib.Core.Path.{_≡_, refl, sym, ap, _∙_}
+use mathlib.Core.Path.{_≡_, refl, ap}
 use mathlib.Core.Logic.{_⊎_, inl, inr}
-use mathlib.Core.Bool.{true, cond}
-use Prim.Native.Nat.{ℕ, zero, suc, _+_, _-_, _*_, _/_, _%_, _≤_, _<_, _^_}
+use mathlib.Core.Bool.{true}
+use Prim.Native.Nat.{ℕ, zero, suc, _+_, _-_, _%_, _<_}
 use native.Mathlib.Omega.{arith}
 use lib.Dec.{eqb}
 use Rattle.std.proofs.shelf.Tests.{cond-both, eqb-true, eq-eqb}
@@ -21,23 +21,6 @@ ones-some (suc n) h = ap (λ m. 1 + m % 65535) (omega arith)
 pub ones-cases : (n : ℕ) → ((n ≡ 0) × (ones n ≡ 0)) ⊎ ((0 < n) × (ones n ≡ 1 + (n - 1) % 65535))
 ones-cases zero = inl (refl, ones-none)
 ones-cases (suc n) = inr (omega arith, ones-some (suc n) (omega arith))
-
--- adding the carries changes no sum
-pub ones-carried : (s : ℕ) → ones (s % 65536 + s / 65536) ≡ ones s
-ones-carried s = omega (arith, ones-cases s, ones-cases (s % 65536 + s / 65536))
-
--- a sum of 16 bits stays as it is
-pub ones-small : (s : ℕ) → s ≤ 65535 → ones s ≡ s
-ones-small s h = omega (arith, ones-cases s)
-
-pub ones-bound : (s : ℕ) → ones s ≤ 65535
-ones-bound s = omega (arith, ones-cases s)
-
--- two rounds of carrying bring a sum of 32 bits into 16
-pub ones-twice : (s t : ℕ) → s < 2 ^ 32 → t ≡ s % 65536 + s / 65536 → t % 65536 + t / 65536 ≡ ones s
-ones-twice s t h e =
-    let small : t % 65536 + t / 65536 ≤ 65535 = omega arith in
-    sym (ones-small (t % 65536 + t / 65536) small) ∙ (ones-carried t ∙ (ap ones e ∙ ones-carried s))
 
 -- MOVED. A right sum, moved by what changed, is the fresh sum of the words after, unless these are all 0.
 pub moved-fresh : (before after c gone new : ℕ) → right (before + c) ≡ true → after + gone ≡ before + new → 0 < after → moved c gone new ≡ fresh after
@@ -59,13 +42,9 @@ moved-off before after c gone new e = omega arith
 pub fresh-right : (s : ℕ) → right (s + fresh s) ≡ true
 fresh-right s = eq-eqb (ones (s + fresh s)) 65535 (omega (arith, ones-cases s, ones-cases (s + fresh s)))
 
--- how the code works a moved sum out
-pub moved-folded : (old gone new t : ℕ) → old ≤ 65535 → t ≡ 65535 - old + (65535 - ones gone) + ones new + 65535 → 65535 - ones t ≡ moved old gone new
-moved-folded old gone new t h e = omega (arith, ones-cases gone, ones-cases new, ones-cases t)
-
 -- a right sum stays right in its other spelling
 pub nonzero-right : (s c : ℕ) → right (s + c) ≡ true → right (s + nonzero c) ≡ true
 nonzero-right s c r =
     cond-both (eqb c 0) 65535 c (λ n. right (s + n) ≡ true)
-        (λ z. eq-eqb (ones (s + 65535)) 65535 (omega (arith, eqb-true c 0 z, eqb-true (ones (s + c)) 65535 r, ones-cases (s + c), ones-cases (s + 65535))))
-        (λ _. r)
+    (λ z. eq-eqb (ones (s + 65535)) 65535 (omega (arith, eqb-true c 0 z, eqb-true (ones (s + c)) 65535 r, ones-cases (s + c), ones-cases (s + 65535))))
+    (λ _. r)

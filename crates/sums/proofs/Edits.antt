@@ -1,10 +1,10 @@
 -- Laws of putting a word into a list of bytes: what is read back, what stays, and how the sum of all words moves.
-use mathlib.Core.Path.{_≡_, refl, sym, ap, _∙_}
+use mathlib.Core.Path.{_≡_, ap, _∙_}
 use mathlib.Core.Logic.{_≢_, _⊎_, inl, inr}
 use mathlib.Core.List.{List, [], _∷_}
-use Prim.Native.Nat.{ℕ, zero, suc, _+_, _*_, _/_, _%_, _≤_, _<_}
+use Prim.Native.Nat.{ℕ, zero, suc, _+_, _*_, _/_, _%_, _<_}
 use native.Mathlib.Omega.{arith}
-use lib.ListN.{length, getD, set}
+use lib.ListN.{length, set}
 use Rattle.std.proofs.shelf.Lists.{length-set, getD-set-same, getD-set-other, set-set, set-comm}
 use Rattle.std.proofs.shelf.Tests.{cases-order}
 use Rattle.sums.specs.Words.{byteAt, wordAt, longAt, putWord, putLong, wordSum}
@@ -21,9 +21,9 @@ pub word-same : (bs : List ℕ) (i w : ℕ) → i + 1 < length bs → wordAt (pu
 word-same bs i w h =
     let ne : i ≢ i + 1 = omega arith in
     let low : byteAt (putWord bs i w) (i + 1) ≡ w % 256 =
-        getD-set-same (set bs i (w / 256)) (i + 1) (w % 256) 0 (omega (arith, length-set bs i (w / 256))) in
+    getD-set-same (set bs i (w / 256)) (i + 1) (w % 256) 0 (omega (arith, length-set bs i (w / 256))) in
     let high : byteAt (putWord bs i w) i ≡ w / 256 =
-        getD-set-other (set bs i (w / 256)) (i + 1) i (w % 256) 0 ne ∙ getD-set-same bs i (w / 256) 0 (omega arith) in
+    getD-set-other (set bs i (w / 256)) (i + 1) i (w % 256) 0 ne ∙ getD-set-same bs i (w / 256) 0 (omega arith) in
     omega arith
 
 -- a word that shares no byte with the one put stays
@@ -43,9 +43,10 @@ word-above bs i w j h =
 pub word-apart : (bs : List ℕ) (j w k : ℕ) → k ≢ j → wordAt (putWord bs (2 * j) w) (2 * k) ≡ wordAt bs (2 * k)
 word-apart bs j w k ne =
     elim (cases-order k j) [
-      inl same ↦ absurd (ne same)
-    | inr (inl less) ↦ word-below bs (2 * j) w (2 * k) (omega arith)
-    | inr (inr more) ↦ word-above bs (2 * j) w (2 * k) (omega arith) ]
+      | inl same ↦ absurd (ne same)
+      | inr (inl less) ↦ word-below bs (2 * j) w (2 * k) (omega arith)
+      | inr (inr more) ↦ word-above bs (2 * j) w (2 * k) (omega arith)
+    ]
 
 -- of two words put at one place the second is left
 pub put-put : (bs : List ℕ) (i v w : ℕ) → putWord (putWord bs i v) i w ≡ putWord bs i w
@@ -53,15 +54,6 @@ put-put bs i v w =
     ap (λ xs. set xs (i + 1) (w % 256)) (set-comm (set bs i (v / 256)) (i + 1) i (v % 256) (w / 256) (omega arith))
     ∙ (set-set (set (set bs i (v / 256)) i (w / 256)) (i + 1) (v % 256) (w % 256)
     ∙ ap (λ xs. set xs (i + 1) (w % 256)) (set-set bs i (v / 256) (w / 256)))
-
--- at places that share no byte the order does not matter
-pub put-comm : (bs : List ℕ) (i j v w : ℕ) → i + 1 < j → putWord (putWord bs i v) j w ≡ putWord (putWord bs j w) i v
-put-comm bs i j v w h =
-    ap (λ xs. set xs (j + 1) (w % 256)) (set-comm (set bs i (v / 256)) (i + 1) j (v % 256) (w / 256) (omega arith))
-    ∙ (set-comm (set (set bs i (v / 256)) j (w / 256)) (i + 1) (j + 1) (v % 256) (w % 256) (omega arith)
-    ∙ ap (λ xs. set xs (i + 1) (v % 256))
-        (ap (λ xs. set xs (j + 1) (w % 256)) (set-comm bs i j (v / 256) (w / 256) (omega arith))
-        ∙ set-comm (set bs j (w / 256)) i (j + 1) (v / 256) (w % 256) (omega arith)))
 
 put-shifted : (a b : ℕ) (bs : List ℕ) (i w : ℕ) → putWord (a ∷ (b ∷ bs)) (i + 2) w ≡ a ∷ (b ∷ putWord bs i w)
 put-shifted a b bs i w =
@@ -88,10 +80,10 @@ sum-put (suc k) (a ∷ []) w h = omega arith
 sum-put (suc k) (a ∷ (b ∷ bs)) w h =
     let step : 2 * suc k ≡ 2 * k + 2 = omega arith in
     let put : putWord (a ∷ (b ∷ bs)) (2 * suc k) w ≡ a ∷ (b ∷ putWord bs (2 * k) w) =
-        ap (λ n. putWord (a ∷ (b ∷ bs)) n w) step ∙ put-shifted a b bs (2 * k) w in
+    ap (λ n. putWord (a ∷ (b ∷ bs)) n w) step ∙ put-shifted a b bs (2 * k) w in
     let at : wordAt (a ∷ (b ∷ bs)) (2 * suc k) ≡ wordAt bs (2 * k) = ap (λ n. wordAt (a ∷ (b ∷ bs)) n) step ∙ word-shifted a b bs (2 * k) in
     let sum : wordSum (putWord (a ∷ (b ∷ bs)) (2 * suc k) w) ≡ a * 256 + b + wordSum (putWord bs (2 * k) w) =
-        ap wordSum put ∙ sum-pair a b (putWord bs (2 * k) w) in
+    ap wordSum put ∙ sum-pair a b (putWord bs (2 * k) w) in
     omega (arith, sum-put k bs w (omega arith), sum-pair a b bs)
 
 -- a word's high byte alone
@@ -104,7 +96,7 @@ sum-set (suc k) (a ∷ []) b h = omega arith
 sum-set (suc k) (a ∷ (d ∷ bs)) b h =
     let step : 2 * suc k ≡ suc (suc (2 * k)) = omega arith in
     let sum : wordSum (set (a ∷ (d ∷ bs)) (2 * suc k) b) ≡ a * 256 + d + wordSum (set bs (2 * k) b) =
-        ap (λ n. wordSum (set (a ∷ (d ∷ bs)) n b)) step ∙ sum-pair a d (set bs (2 * k) b) in
+    ap (λ n. wordSum (set (a ∷ (d ∷ bs)) n b)) step ∙ sum-pair a d (set bs (2 * k) b) in
     let at : byteAt (a ∷ (d ∷ bs)) (2 * suc k) ≡ byteAt bs (2 * k) = ap (λ n. byteAt (a ∷ (d ∷ bs)) n) step in
     omega (arith, sum-set k bs b (omega arith), sum-pair a d bs)
 
@@ -121,7 +113,7 @@ pub long-same : (bs : List ℕ) (i n : ℕ) → i + 3 < length bs → longAt (pu
 long-same bs i n h =
     let first : List ℕ = putWord bs i (n / 65536) in
     let high : wordAt (putLong bs i n) i ≡ n / 65536 =
-        word-below first (i + 2) (n % 65536) i (omega arith) ∙ word-same bs i (n / 65536) (omega arith) in
+    word-below first (i + 2) (n % 65536) i (omega arith) ∙ word-same bs i (n / 65536) (omega arith) in
     let low : wordAt (putLong bs i n) (i + 2) ≡ n % 65536 =
-        word-same first (i + 2) (n % 65536) (omega (arith, length-put bs i (n / 65536))) in
+    word-same first (i + 2) (n % 65536) (omega (arith, length-put bs i (n / 65536))) in
     omega arith

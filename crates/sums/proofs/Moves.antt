@@ -7,8 +7,8 @@ use native.Mathlib.Omega.{arith}
 use lib.ListN.{length, set}
 use Rattle.std.proofs.shelf.Lists.{length-set}
 use Rattle.sums.specs.Words.{byteAt, wordAt, putWord, putLong, wordSum}
-use Rattle.sums.specs.Sums.{fresh, right, moved, restSum}
-use Rattle.sums.specs.Laws.{Edit, Change, changed, gone, new, Within, OneWord, ManyWords, MovedIsFresh, MovedToZero}
+use Rattle.sums.specs.Sums.{right, restSum}
+use Rattle.sums.specs.Laws.{Edit, changed, gone, new, Within, OneWord, ManyWords, MovedIsFresh, MovedToZero}
 use Rattle.sums.proofs.Carries.{moved-fresh, moved-zero}
 use Rattle.sums.proofs.Edits.{length-put, put-put, word-above, sum-put, sum-set}
 
@@ -36,14 +36,14 @@ moved-is-fresh k bs xs g n before after h e same r pos =
     let long : 2 * k + 1 < length xs = rw (e .long) h in
     let whole : before + wordSum bs ≡ restSum before bs (2 * k) + wordAt bs (2 * k) = omega (arith, left-out k bs h) in
     moved-fresh (restSum before bs (2 * k)) (restSum after xs (2 * k)) (wordAt bs (2 * k)) (before + g) (after + n)
-        (rw (← whole) r) (omega (arith, left-out k bs h, left-out k xs long, e .sum)) pos
+    (rw (← whole) r) (omega (arith, left-out k bs h, left-out k xs long, e .sum)) pos
 
 pub moved-to-zero : MovedToZero
 moved-to-zero k bs xs g n before after h e same r none =
     let long : 2 * k + 1 < length xs = rw (e .long) h in
     let whole : before + wordSum bs ≡ restSum before bs (2 * k) + wordAt bs (2 * k) = omega (arith, left-out k bs h) in
     moved-zero (restSum before bs (2 * k)) (wordAt bs (2 * k)) (before + g) (after + n)
-        (rw (← whole) r) (omega (arith, left-out k bs h, left-out k xs long, e .sum))
+    (rw (← whole) r) (omega (arith, left-out k bs h, left-out k xs long, e .sum))
 
 -- a number of 32 bits is two words
 pub one-long : (k : ℕ) (bs : List ℕ) (n : ℕ) → 2 * k + 3 < length bs →
@@ -56,7 +56,7 @@ one-long k bs n h =
     let P : ℕ → Type 0 = λ i. Edit first (putWord first i (n % 65536)) (wordAt first i) (n % 65536) in
     let second : P (2 * k + 2) = subst P next (one-word (k + 1) first (n % 65536) long) in
     let whole : Edit bs (putLong bs (2 * k) n) (wordAt bs (2 * k) + wordAt first (2 * k + 2)) (n / 65536 + n % 65536) =
-        both-edits (one-word k bs (n / 65536) (omega arith)) second in
+    both-edits (one-word k bs (n / 65536) (omega arith)) second in
     record { long = whole .long; sum = omega (arith, whole .sum) }
 
 -- a word's high byte alone
@@ -71,5 +71,5 @@ pub right-there : (extra k : ℕ) (bs : List ℕ) (w : ℕ) → 2 * k + 1 < leng
     right (extra + wordSum (putWord bs (2 * k) w)) ≡ true
 right-there extra k bs w h r =
     let e : restSum extra bs (2 * k) + w ≡ extra + wordSum (putWord bs (2 * k) w) =
-        omega (arith, sum-put k bs w h, left-out k bs h) in
+    omega (arith, sum-put k bs w h, left-out k bs h) in
     rw e at r

@@ -6,8 +6,7 @@ ghost use Rattle.sums.specs.Laws.{FreshIsRight, ManyWords, MovedIsFresh, Moved
 pub fn edits_move_sums()
     ensures one { λ _. ⌜ OneWord ⌝ }
     ensures many { λ _. ⌜ ManyWords ⌝ }
-{
-}
+{}
 
 // A moved sum is the fresh one, or off by as much as the old one was.
 pub fn moved_sums_are_fresh()
@@ -15,11 +14,9 @@ pub fn moved_sums_are_fresh()
     ensures zero { λ _. ⌜ MovedToZero ⌝ }
     ensures off { λ _. ⌜ MovedIsOff ⌝ }
     ensures right { λ _. ⌜ FreshIsRight ⌝ }
-{
-}
+{}
 
 // The definitions give the numbers that the standards work out.
 pub fn worked_numbers_agree()
     ensures { λ _. ⌜ WorkedNumbers ⌝ }
-{
-}
+{}

@@ -1,15 +1,21 @@
 // Reads cases as lines of hexadecimal digits and prints what is read from each packet, and the packet as it is written both ways.
 // A line is an external address and port, an internal address and port, and a packet; one that begins with '#' is printed as it stands.
 use blocks::refusal::Refusal;
-use packets::facts::{Endpoint, Facts, Heading, Protocol, Reading};
+use packets::facts::Endpoint;
+use packets::facts::Facts;
+use packets::facts::Heading;
+use packets::facts::Protocol;
+use packets::facts::Reading;
 use packets::reader::read;
-use packets::writer::{write_in, write_out};
+use packets::writer::write_in;
+use packets::writer::write_out;
 use std::alloc::AllocError;
 use std::alloc::Global;
 use std::io;
 use std::io::BufRead;
 use std::io::BufReader;
-use sums::words::{long_at, word_at};
+use sums::words::long_at;
+use sums::words::word_at;
 
 fn digit(b: u8) -> Option<u8> {
     match b {
@@ -44,7 +50,10 @@ fn bytes_of(heap: Global, text: &str) -> Result<Vec<u8>, AllocError> {
 
 fn endpoint_at(bytes: &[u8], at: usize) -> Endpoint {
     if bytes.len() < 12 || at > 6 {
-        return Endpoint { address: 0, port: 0 };
+        return Endpoint {
+            address: 0,
+            port: 0,
+        };
     }
     Endpoint {
         address: long_at(bytes, at),

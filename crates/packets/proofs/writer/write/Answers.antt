@@ -2,7 +2,7 @@
 use mathlib.Core.Path.{_≡_, sym, ap, subst, _∙_}
 use mathlib.Core.Bool.{true, false}
 use mathlib.Core.List.{List, _++_}
-use Prim.Native.Nat.{ℕ, _+_, _-_, _≤_, _<_}
+use Prim.Native.Nat.{ℕ, _+_, _-_, _≤_}
 use native.Mathlib.Omega.{arith}
 use lib.ListN.{length, take}
 use Rattle.std.proofs.shelf.Lists.{getD-take}
@@ -14,7 +14,7 @@ use Rattle.packets.specs.declared.facts.Protocol.{Protocol}
 use Rattle.packets.specs.Fields.{headerOf, bodyOf}
 use Rattle.packets.specs.Writing.{Besides, besides, hasNoSum, leastOf, sent, sentHeader, sentBody}
 use Rattle.packets.proofs.Readable.{Read, was-read}
-use Rattle.packets.proofs.Accepted.{plain-version, plain-length, fits-least, right-body, besides-fits, length-header, length-body}
+use Rattle.packets.proofs.Accepted.{plain-version, plain-length, fits-least, right-body, besides-fits, length-header}
 use Rattle.packets.proofs.Headers.{length-sent-header}
 use Rattle.packets.proofs.Halves.{header-out, rest-out, body-back}
 use Rattle.packets.proofs.writer.write.Needs as need
@@ -62,10 +62,10 @@ write-body-requires c κs =
     let body = rest-out h b l in
     let count : c .word-at-count .result - 20 ≡ length b = omega (arith, total bs f r) in
     let before : c .sum-besides-before .result ≡ besides p (headerOf bs) (length b) =
-        c .sum-besides-before .ensures .is ∙ ap (λ n. besides p (headerOf bs) n) count in
+    c .sum-besides-before .ensures .is ∙ ap (λ n. besides p (headerOf bs) n) count in
     let after : c .sum-besides-after .result ≡ besides p h (length b) =
-        besides-there bs f (c .args .end) (c .args .endpoint .address) r h (c .write-header .ensures) (c .word-at-count .result - 20)
-            (c .sum-besides-after .result) count (c .sum-besides-after .ensures .is) in
+    besides-there bs f (c .args .end) (c .args .endpoint .address) r h (c .write-header .ensures) (c .word-at-count .result - 20)
+    (c .sum-besides-after .result) count (c .sum-besides-after .ensures .is) in
     let least : leastOf p ≤ length b = fits-least p b (r .tests .fits) in
     record {
       long = subst (λ xs. leastOf p ≤ length xs) (sym body) least;
@@ -73,7 +73,8 @@ write-body-requires c κs =
       small = (c .sum-besides-before .ensures .small, c .sum-besides-after .ensures .small);
       besides = subst (λ n. Besides p n) (sym after) (besides-fits p h (length b) least);
       sum = subst (λ xs. hasNoSum p xs ≡ false → right (c .sum-besides-before .result + wordSum xs) ≡ true) (sym body)
-          (λ n. subst (λ k. right (k + wordSum b) ≡ true) (sym before) (right-body p (headerOf bs) b (r .tests .body) n)) }
+          (λ n. subst (λ k. right (k + wordSum b) ≡ true) (sym before) (right-body p (headerOf bs) b (r .tests .body) n));
+    }
 
 pub returns : need.returns
 unfolding sent
@@ -87,12 +88,12 @@ returns c =
     let l : length h ≡ 20 = as-long bs f (c .args .end) (c .args .endpoint .address) r h (c .write-header .ensures) in
     let count : c .word-at-count .result - 20 ≡ length b = omega (arith, total bs f r) in
     let after : c .sum-besides-after .result ≡ besides p h (length b) =
-        besides-there bs f (c .args .end) (c .args .endpoint .address) r h (c .write-header .ensures) (c .word-at-count .result - 20)
-            (c .sum-besides-after .result) count (c .sum-besides-after .ensures .is) in
+    besides-there bs f (c .args .end) (c .args .endpoint .address) r h (c .write-header .ensures) (c .word-at-count .result - 20)
+    (c .sum-besides-after .result) count (c .sum-besides-after .ensures .is) in
     let written : c .write-body .last .body ≡ sentBody p (c .args .end) (besides p h (length b)) (c .args .endpoint .port) b =
-        c .write-body .ensures
-        ∙ (ap (λ n. sentBody p (c .args .end) n (c .args .endpoint .port) (take (length (h ++ b) - 20) (bodyOf (h ++ b)))) after
-        ∙ ap (λ xs. sentBody p (c .args .end) (besides p h (length b)) (c .args .endpoint .port) xs) (rest-out h b l)) in
+    c .write-body .ensures
+    ∙ (ap (λ n. sentBody p (c .args .end) n (c .args .endpoint .port) (take (length (h ++ b) - 20) (bodyOf (h ++ b)))) after
+    ∙ ap (λ xs. sentBody p (c .args .end) (besides p h (length b)) (c .args .endpoint .port) xs) (rest-out h b l)) in
     body-back h b l (c .write-body .last .body)
     ∙ (ap (λ xs. h ++ xs) written
     ∙ ap (λ g. g ++ sentBody p (c .args .end) (besides p g (length b)) (c .args .endpoint .port) b) (c .write-header .ensures))
