@@ -1,0 +1,4 @@
+pub mod Carries
+pub mod WordSums
+pub mod Edits
+pub mod Moves

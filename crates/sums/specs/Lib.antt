@@ -1,0 +1,4 @@
+pub mod Words
+pub mod Sums
+pub mod Laws
+pub mod Examples
