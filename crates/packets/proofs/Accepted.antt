@@ -12,8 +12,8 @@ use Rattle.std.proofs.shelf.Tests.{or-cases, both-ways}
 use Rattle.std.proofs.shelf.Ways.{tells}
 use Rattle.sums.specs.Words.{wordAt, wordSum}
 use Rattle.sums.specs.Sums.{right}
-use Rattle.packets.specs.declared.facts.Protocol.{Protocol}
-use Rattle.packets.specs.declared.facts.Protocol.the-variants.{Udp, Tcp, Echo}
+use Rattle.mappings.specs.declared.event.Protocol.{Protocol}
+use Rattle.mappings.specs.declared.event.Protocol.the-variants.{Udp, Tcp, Echo}
 use Rattle.packets.specs.Fields.{headerOf, versionAndLength, totalLength, pseudoSum}
 use Rattle.packets.specs.Reading.{plainHeader, bodyFits, bodyRight}
 use Rattle.packets.specs.Writing.{Besides, besides, hasNoSum, leastOf}

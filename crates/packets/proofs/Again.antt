@@ -13,8 +13,8 @@ use Rattle.std.proofs.shelf.Tests.{cases-bool, eqb-true, eq-eqb, or-left, or-ri
 use Rattle.std.specs.declared.result.Result.the-variants.{Ok}
 use Rattle.sums.specs.Words.{byteAt, wordAt, wordSum}
 use Rattle.sums.specs.Sums.{right}
-use Rattle.packets.specs.declared.facts.Protocol.{Protocol}
-use Rattle.packets.specs.declared.facts.Protocol.the-variants.{Udp, Tcp, Echo}
+use Rattle.mappings.specs.declared.event.Protocol.{Protocol}
+use Rattle.mappings.specs.declared.event.Protocol.the-variants.{Udp, Tcp, Echo}
 use Rattle.packets.specs.declared.facts.End.{End}
 use Rattle.packets.specs.declared.facts.End.the-variants.{Source, Destination}
 use Rattle.packets.specs.declared.facts.Endpoint.{Endpoint}

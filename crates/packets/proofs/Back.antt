@@ -3,8 +3,8 @@ use mathlib.Core.Path.{_≡_, refl, sym, ap, _∙_}
 use mathlib.Core.List.{List}
 use Prim.Native.Nat.{ℕ}
 use Rattle.sums.specs.Words.{wordAt}
-use Rattle.packets.specs.declared.facts.Protocol.{Protocol}
-use Rattle.packets.specs.declared.facts.Protocol.the-variants.{Udp, Tcp, Echo}
+use Rattle.mappings.specs.declared.event.Protocol.{Protocol}
+use Rattle.mappings.specs.declared.event.Protocol.the-variants.{Udp, Tcp, Echo}
 use Rattle.packets.specs.declared.facts.End.the-variants.{Source, Destination}
 use Rattle.packets.specs.declared.facts.Endpoint.{Endpoint}
 use Rattle.packets.specs.declared.facts.Facts.{Facts}

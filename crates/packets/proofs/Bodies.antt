@@ -14,8 +14,8 @@ use Rattle.sums.specs.Sums.{fresh, right, moved, restSum}
 use Rattle.sums.proofs.Carries.{ones-none}
 use Rattle.sums.proofs.Edits.{length-put, put-put, word-apart}
 use Rattle.sums.proofs.Moves.{one-word, moved-is-fresh, moved-to-zero}
-use Rattle.packets.specs.declared.facts.Protocol.{Protocol}
-use Rattle.packets.specs.declared.facts.Protocol.the-variants.{Udp, Tcp, Echo}
+use Rattle.mappings.specs.declared.event.Protocol.{Protocol}
+use Rattle.mappings.specs.declared.event.Protocol.the-variants.{Udp, Tcp, Echo}
 use Rattle.packets.specs.declared.facts.End.{End}
 use Rattle.packets.specs.declared.facts.End.the-variants.{Source, Destination}
 use Rattle.packets.specs.Fields.{portAt, sumAt}

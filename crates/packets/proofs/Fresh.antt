@@ -7,8 +7,8 @@ use lib.ListN.{length}
 use Rattle.std.proofs.shelf.Tests.{eqb-true, false≢true}
 use Rattle.sums.specs.Words.{wordAt}
 use Rattle.sums.specs.Sums.{fresh, restSum}
-use Rattle.packets.specs.declared.facts.Protocol.{Protocol}
-use Rattle.packets.specs.declared.facts.Protocol.the-variants.{Udp, Tcp, Echo}
+use Rattle.mappings.specs.declared.event.Protocol.{Protocol}
+use Rattle.mappings.specs.declared.event.Protocol.the-variants.{Udp, Tcp, Echo}
 use Rattle.packets.specs.declared.facts.End.{End}
 use Rattle.packets.specs.declared.facts.Endpoint.{Endpoint}
 use Rattle.packets.specs.declared.facts.Facts.{Facts}

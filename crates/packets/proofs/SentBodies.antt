@@ -12,8 +12,8 @@ use Rattle.sums.specs.Sums.{fresh, right, restSum}
 use Rattle.sums.proofs.Carries.{fresh-right, nonzero-right}
 use Rattle.sums.proofs.Edits.{byte-other, length-put, word-apart, word-same}
 use Rattle.sums.proofs.Moves.{fresh-there, right-there}
-use Rattle.packets.specs.declared.facts.Protocol.{Protocol}
-use Rattle.packets.specs.declared.facts.Protocol.the-variants.{Udp, Tcp, Echo}
+use Rattle.mappings.specs.declared.event.Protocol.{Protocol}
+use Rattle.mappings.specs.declared.event.Protocol.the-variants.{Udp, Tcp, Echo}
 use Rattle.packets.specs.declared.facts.End.{End}
 use Rattle.packets.specs.declared.facts.End.the-variants.{Source, Destination}
 use Rattle.packets.specs.Fields.{portAt, sumAt}

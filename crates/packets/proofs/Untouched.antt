@@ -10,7 +10,7 @@ use lib.ListN.{length}
 use Rattle.std.proofs.shelf.Lists.{getD-append-left, getD-append-right, getD-drop, getD-take, length-append, length-drop}
 use Rattle.std.proofs.shelf.Tests.{and-cases, cases-lt, eqb-false, leb-false, ltb-false}
 use Rattle.sums.specs.Words.{byteAt}
-use Rattle.packets.specs.declared.facts.Protocol.{Protocol}
+use Rattle.mappings.specs.declared.event.Protocol.{Protocol}
 use Rattle.packets.specs.declared.facts.End.{End}
 use Rattle.packets.specs.declared.facts.Endpoint.{Endpoint}
 use Rattle.packets.specs.declared.facts.Facts.{Facts}

@@ -7,8 +7,8 @@ use lib.ListN.{take, drop}
 use Rattle.sums.specs.Words.{byteAt, wordAt}
 use Rattle.packets.specs.declared.facts.Payload.{Payload}
 use Rattle.packets.specs.declared.facts.Payload.the-variants.{Datagram, Segment, Message, Other}
-use Rattle.packets.specs.declared.facts.Protocol.{Protocol}
-use Rattle.packets.specs.declared.facts.Protocol.the-variants.{Udp, Tcp, Echo}
+use Rattle.mappings.specs.declared.event.Protocol.{Protocol}
+use Rattle.mappings.specs.declared.event.Protocol.the-variants.{Udp, Tcp, Echo}
 use Rattle.packets.specs.declared.facts.End.{End}
 use Rattle.packets.specs.declared.facts.End.the-variants.{Source, Destination}
 

@@ -8,8 +8,8 @@ use lib.ListN.{length}
 use Rattle.std.specs.declared.result.Result.the-variants.{Ok}
 use Rattle.sums.specs.Words.{byteAt, wordAt}
 use Rattle.sums.specs.Sums.{fresh, restSum}
-use Rattle.packets.specs.declared.facts.Protocol.{Protocol}
-use Rattle.packets.specs.declared.facts.Protocol.the-variants.{Udp, Tcp, Echo}
+use Rattle.mappings.specs.declared.event.Protocol.{Protocol}
+use Rattle.mappings.specs.declared.event.Protocol.the-variants.{Udp, Tcp, Echo}
 use Rattle.packets.specs.declared.facts.End.{End}
 use Rattle.packets.specs.declared.facts.End.the-variants.{Source, Destination}
 use Rattle.packets.specs.declared.facts.Endpoint.{Endpoint}

@@ -7,8 +7,8 @@ use lib.Dec.{eqb}
 use lib.ListN.{length, set}
 use Rattle.sums.specs.Words.{wordAt, putWord, putLong}
 use Rattle.sums.specs.Sums.{fresh, nonzero, restSum}
-use Rattle.packets.specs.declared.facts.Protocol.{Protocol}
-use Rattle.packets.specs.declared.facts.Protocol.the-variants.{Udp, Tcp, Echo}
+use Rattle.mappings.specs.declared.event.Protocol.{Protocol}
+use Rattle.mappings.specs.declared.event.Protocol.the-variants.{Udp, Tcp, Echo}
 use Rattle.packets.specs.declared.facts.End.{End}
 use Rattle.packets.specs.declared.facts.Endpoint.{Endpoint}
 use Rattle.packets.specs.Fields.{headerOf, bodyOf, timeToLive, addressAt, portAt, sumAt, pseudoSum}

@@ -1,4 +1,5 @@
 // What is read from a packet.
+use mappings::event::Protocol;
 
 // What a packet carries, by its header's protocol number.
 #[derive(Clone, Copy)]
@@ -10,14 +11,6 @@ pub enum Payload {
     // ICMP
     Message,
     Other,
-}
-
-// What a mapping is for. An echo's identifier stands for its port on both sides.
-#[derive(Clone, Copy)]
-pub enum Protocol {
-    Udp,
-    Tcp,
-    Echo,
 }
 
 // The two ends of a packet's way.

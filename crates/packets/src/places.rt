@@ -2,7 +2,7 @@
 ghost use Rattle.packets.specs.Fields.{addressAt, portAt, sumAt};
 ghost use mathlib.Core.Path.{_≡_};
 use crate::facts::End;
-use crate::facts::Protocol;
+use mappings::event::Protocol;
 
 // Where an end's address stands in the header.
 pub fn address_at(end: End) -> usize

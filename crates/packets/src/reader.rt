@@ -11,7 +11,7 @@ use crate::facts::Endpoint;
 use crate::facts::Facts;
 use crate::facts::Heading;
 use crate::facts::Payload;
-use crate::facts::Protocol;
+use mappings::event::Protocol;
 use crate::facts::Reading;
 use crate::places::address_at;
 use crate::places::port_at;

@@ -15,7 +15,7 @@ ghost use mathlib.Core.Path.{_≡_};
 use crate::facts::End;
 use crate::facts::Endpoint;
 use crate::facts::Facts;
-use crate::facts::Protocol;
+use mappings::event::Protocol;
 use crate::places::address_at;
 use crate::places::port_at;
 use crate::places::sum_at;

@@ -4,7 +4,7 @@ use blocks::refusal::Refusal;
 use packets::facts::Endpoint;
 use packets::facts::Facts;
 use packets::facts::Heading;
-use packets::facts::Protocol;
+use mappings::event::Protocol;
 use packets::facts::Reading;
 use packets::reader::read;
 use packets::writer::write_in;

@@ -10,7 +10,7 @@ use Rattle.sums.specs.Words.{wordAt, wordSum}
 use Rattle.sums.specs.Sums.{right}
 use Rattle.packets.specs.declared.facts.End.{End}
 use Rattle.packets.specs.declared.facts.Facts.{Facts}
-use Rattle.packets.specs.declared.facts.Protocol.{Protocol}
+use Rattle.mappings.specs.declared.event.Protocol.{Protocol}
 use Rattle.packets.specs.Fields.{headerOf, bodyOf}
 use Rattle.packets.specs.Writing.{Besides, besides, hasNoSum, leastOf, sent, sentHeader, sentBody}
 use Rattle.packets.proofs.Readable.{Read, was-read}
