@@ -1,26 +1,26 @@
 -- What a refusal leaves as it was, and how a run ends.
-use mathlib.Core.Path.{_≡_, refl, sym, _∙_, ap, subst}
+use mathlib.Core.Path.{_≡_, refl, sym, _∙_, ap}
 use mathlib.Core.Bool.{Bool, true, false, cond, _||_}
 use mathlib.Core.List.{List, [], _∷_, _++_, append-nil}
-use mathlib.Core.Logic.{_⊎_, inl, inr, ⊎-elim}
-use Prim.Native.Nat.{ℕ, _+_, _≤_, _<_}
+use mathlib.Core.Logic.{_⊎_, inl, inr}
+use Prim.Native.Nat.{ℕ, _≤_, _<_}
 use native.Mathlib.Omega.{arith}
 use lib.Dec.{leb, ltb}
 use Rattle.std.specs.declared.option.Option.{Option}
 use Rattle.std.specs.declared.option.Option.the-variants.{Some, None}
-use Rattle.std.proofs.shelf.Tests.{or-parts, or-from, leb-true, leb-false, cond-true, cond-false}
+use Rattle.std.proofs.shelf.Tests.{or-parts, leb-false}
 use Rattle.blocks.specs.Config.{Config}
 use Rattle.blocks.specs.declared.refusal.Refusal.{Refusal}
 use Rattle.blocks.specs.declared.refusal.Refusal.the-variants.{NoSubscriber}
 use Rattle.mappings.specs.declared.event.Outward.{Outward}
 use Rattle.mappings.specs.declared.event.Event.{Event}
 use Rattle.mappings.specs.declared.event.Event.the-variants.{Unreadable, Goes, Comes, ErrorGoes, ErrorComes, Tick}
-use Rattle.mappings.specs.declared.event.Verdict.the-variants.{Sent, Delivered, Refused, Ticked}
+use Rattle.mappings.specs.declared.event.Verdict.the-variants.{Refused}
 use Rattle.mappings.specs.Searches.{first}
 use Rattle.mappings.specs.States.{State, fresh, portsOf}
 use Rattle.mappings.specs.Steps.{Step, counted, ended, exhausted, handled, ticked, only, isFree, faceOf, nextBlock, byNextBlock, byFree, byFace, goes, step, lastTick, lastMoment}
 use Rattle.mappings.specs.Runs.{stateAfter, bookFrom}
-use Rattle.mappings.specs.Promise.{after, refusalNumber, Unchanged, changesMappings, atLimit, Refusals, InwardsQuiet, Over, Limits}
+use Rattle.mappings.specs.Promise.{after, refusalNumber, changesMappings, atLimit, Refusals, InwardsQuiet, Over, Limits}
 use Rattle.mappings.proofs.Options.{true-not-false}
 use Rattle.mappings.proofs.Shapes.{Shape, refuses, stops, delivers, errs, again, makes, gives, ticks, shape, handled-shape}
 use Rattle.mappings.proofs.Continued.{state-on, book-on}
@@ -57,10 +57,11 @@ pub inwards-quiet : InwardsQuiet
 inwards-quiet c es e v = inward-quiet c (after c es) (shape c e (after c es)) v
 
 pub over : Over
-over c es later e h =
-    (state-on c (fresh c) es later ∙ over-state c (after c es) h later,
-        book-on c (fresh c) es later ∙ ap (λ ls. bookFrom c (fresh c) es ++ ls) (over-book c (after c es) h later) ∙ append-nil (bookFrom c (fresh c) es),
-        ap (λ (r : Step). refusalNumber (r .verdict)) (over-step c e (after c es) h))
+over c es later e h = (
+  state-on c (fresh c) es later ∙ over-state c (after c es) h later,
+  book-on c (fresh c) es later ∙ ap (λ ls. bookFrom c (fresh c) es ++ ls) (over-book c (after c es) h later) ∙ append-nil (bookFrom c (fresh c) es),
+  ap (λ (r : Step). refusalNumber (r .verdict)) (over-step c e (after c es) h),
+)
 
 -- a packet outwards never ends a run
 module _ (c : Config) (o : Outward) (s : State) where
@@ -100,6 +101,7 @@ handled-ends c Tick s a b = go (leb lastTick (s .tick)) refl
   where
     limit : (x : Bool) → leb lastTick (s .tick) ≡ x → atLimit s Tick ≡ x
     limit x h = ap (λ y. y || leb lastTick (s .tick)) b ∙ h
+
     go : (x : Bool) → leb lastTick (s .tick) ≡ x → Ends s Tick (cond x (exhausted s) (ticked c s))
     go true h = (sym (limit true h), λ k. refl)
     go false h = (a ∙ sym (limit false h), λ k. true-not-false (sym k ∙ a))
@@ -145,6 +147,7 @@ step-moment c e s l = go (s .over || leb lastMoment (s .moment)) refl
     counted-on : s .moment < lastMoment → Counted s (handled c e s) → handled c e s .state .moment ≤ lastMoment
     counted-on h (inl k) = omega arith
     counted-on h (inr k) = omega (arith, k .0)
+
     go : (b : Bool) → (s .over || leb lastMoment (s .moment)) ≡ b → cond b (exhausted s) (handled c e s) .state .moment ≤ lastMoment
     go true h = l
     go false h = counted-on (leb-false lastMoment (s .moment) (or-parts (s .over) (leb lastMoment (s .moment)) h .1)) (step-counted c s (handled-shape c e s))

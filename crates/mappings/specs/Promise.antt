@@ -20,13 +20,12 @@ use Rattle.mappings.specs.declared.event.Event.{Event}
 use Rattle.mappings.specs.declared.event.Event.the-variants.{Unreadable, Goes, Comes, ErrorGoes, ErrorComes, Tick}
 use Rattle.mappings.specs.declared.event.Verdict.{Verdict}
 use Rattle.mappings.specs.declared.event.Verdict.the-variants.{Sent, Delivered, Refused, Ticked}
-use Rattle.mappings.specs.declared.line.Change.{Change}
 use Rattle.mappings.specs.declared.line.Change.the-variants.{Given, TakenBack}
 use Rattle.mappings.specs.declared.line.Line.{Line}
 use Rattle.mappings.specs.Mappings.{Mapping, live, liveOrResting, isOf, isIn}
 use Rattle.mappings.specs.States.{State, furtherOf, portsOf}
 use Rattle.mappings.specs.Steps.{step, counted, ended, isOfProtocol, lineOf, lastTick, lastMoment}
-use Rattle.mappings.specs.Runs.{Occurrence, run, runFrom, stateAfter}
+use Rattle.mappings.specs.Runs.{Occurrence, run}
 use Rattle.mappings.specs.Books.{who, whoIn}
 
 -- the words that the promises use
