@@ -21,7 +21,7 @@ use Rattle.blocks.specs.declared.refusal.Refusal.the-variants.{NoSubscriber}
 use Rattle.mappings.specs.Mappings.{Mapping, live, liveOrResting, isOf, made, noting}
 use Rattle.mappings.specs.States.{State, furtherOf, portsOf, fresh}
 use Rattle.mappings.specs.Steps.{Step, put, only, isFace, isFree, leftOf, faceOf, byFace}
-use Rattle.mappings.specs.Promise.{after, holderNow, OneOwner, OneFace, FaceUsed, FaceStays}
+use Rattle.mappings.specs.Promise.{after, holderNow, OneOwner, Agreed, OneFace, FaceUsed, FaceStays}
 use Rattle.mappings.proofs.Options.{none-not-some, same-some, not-some}
 use Rattle.mappings.proofs.Firsts.{first-some, first-only}
 use Rattle.mappings.proofs.Ports.{Good, good, blocksFor, block-port}
@@ -47,6 +47,9 @@ one-owner c w es p m e =
     let own = i .owned p m e in
     (holds c (after c es) i (m .subscriber) p (own .0) (own .1) (own .2), i .rests p m e)
 
+pub agreed : Agreed
+agreed c w es n = let i = sound c w es in (λ b j. i .held n b j, λ b e. i .listed n b e, i .most n)
+
 pub one-face : OneFace
 one-face c w es p q m n e f l k a b d = sound c w es .face p q m n e f l k (record { subscriber = a; protocol = b; port = d })
 
@@ -70,12 +73,11 @@ face-used c w es r p m o e l k =
     ∙ cond-true (ltb (o .subscriber) (c .subscribers)) (byFace c o s (faceOf c o s)) (only (Refused NoSubscriber) s) (lt-ltb (o .subscriber) (c .subscribers) one)
     ∙ ap (byFace c o s) (face-found c (good c w) s i o p m e l k))
 
--- the lowest port of a block that nobody has is free
-pub given-free : (c : Config) → Good c → (s : State) → Sound c s → (n b : ℕ) → Next c s n b → (m : Mapping) → s .slots (portOf c b 0) ≡ Some m → ⊥
-given-free c g s i n b new m e =
-    let own = i .owned (portOf c b 0) m e in
-    let at = lowest-in c g b in
-    go (List·Memᴰ·cases-cons (Memᴰ·cast (sym (at .1)) (own .2))) (own .0)
+-- no mapping has a port of a further block that nobody has
+pub given-free : (c : Config) (s : State) → Sound c s → (n b : ℕ) → Next c s n b → (p : ℕ) (m : Mapping) → blockOf c p ≡ b → s .slots p ≡ Some m → ⊥
+given-free c s i n b new p m at e =
+    let own = i .owned p m e in
+    go (List·Memᴰ·cases-cons (Memᴰ·cast (sym at) (own .2))) (own .0)
   where
     go : (b ≡ m .subscriber) ⊎ List·Memᴰ b (furtherOf s (m .subscriber)) → m .subscriber < c .subscribers → ⊥
     go (inl k) one = omega (arith, new .from)
@@ -104,7 +106,7 @@ stays c g s i (makes o q f e) p m h l =
 stays c g s i (gives o b f a e) p m h l = (
   m,
   put-other (s .slots) (portOf c b 0) (Some (made (s .tick) o)) p
-      (λ k. given-free c g s i (o .subscriber) b (next-known c g s (o .subscriber) b e) m (ap (s .slots) (sym k) ∙ h)) ∙ h,
+      (λ k. given-free c s i (o .subscriber) b (next-known c g s (o .subscriber) b e) p m (ap (blockOf c) k ∙ lowest-in c g b .1) h) ∙ h,
   refl,
   refl,
   refl,

@@ -11,14 +11,16 @@ use Rattle.std.specs.declared.option.Option.the-variants.{Some, None}
 use Rattle.std.proofs.shelf.Tests.{or-parts, leb-false}
 use Rattle.blocks.specs.Config.{Config}
 use Rattle.blocks.specs.declared.refusal.Refusal.{Refusal}
-use Rattle.blocks.specs.declared.refusal.Refusal.the-variants.{NoSubscriber}
+use Rattle.blocks.specs.declared.refusal.Refusal.the-variants.{NoSubscriber, NoMapping, NotRemembered, UnrelatedError}
+use Rattle.blocks.specs.Refusals.{numberOf}
 use Rattle.mappings.specs.declared.event.Outward.{Outward}
+use Rattle.mappings.specs.Mappings.{Mapping, isIn}
 use Rattle.mappings.specs.declared.event.Event.{Event}
 use Rattle.mappings.specs.declared.event.Event.the-variants.{Unreadable, Goes, Comes, ErrorGoes, ErrorComes, Tick}
-use Rattle.mappings.specs.declared.event.Verdict.the-variants.{Refused}
+use Rattle.mappings.specs.declared.event.Verdict.the-variants.{Sent, Delivered, Refused}
 use Rattle.mappings.specs.Searches.{first}
 use Rattle.mappings.specs.States.{State, fresh, portsOf}
-use Rattle.mappings.specs.Steps.{Step, counted, ended, exhausted, handled, ticked, only, isFree, faceOf, nextBlock, byNextBlock, byFree, byFace, goes, step, lastTick, lastMoment}
+use Rattle.mappings.specs.Steps.{Step, counted, ended, exhausted, handled, ticked, only, isFree, faceOf, nextBlock, byNextBlock, byFree, byFace, byFaceOnly, goes, remembers, arrival, liveAnd, isOfProtocol, step, lastTick, lastMoment}
 use Rattle.mappings.specs.Runs.{stateAfter, bookFrom}
 use Rattle.mappings.specs.Promise.{after, refusalNumber, changesMappings, atLimit, Refusals, InwardsQuiet, Over, Limits}
 use Rattle.mappings.proofs.Options.{true-not-false}
@@ -126,6 +128,60 @@ step-ends c e s = go (s .over) (leb lastMoment (s .moment)) refl refl
     go false true a b = (sym (ap (λ z. z || atLimit s e) a ∙ last-limit s e b), λ k. refl)
     go false false a b = let h = handled-ends c e s a b in (h .0 ∙ sym (ap (λ z. z || atLimit s e) a), h .1)
 
+-- what was read and can be counted is refused with 12 at the last tick alone
+module _ (c : Config) (o : Outward) (s : State) where
+  next-number : (x : Option ℕ) → refusalNumber (byNextBlock c o s x .verdict) ≡ 12 → ⊥
+  next-number None e = omega arith
+  next-number (Some b) e = omega arith
+
+  free-number : (x : Option ℕ) → refusalNumber (byFree c o s x .verdict) ≡ 12 → ⊥
+  free-number None e = next-number (nextBlock c s (o .subscriber)) e
+  free-number (Some p) e = omega arith
+
+  face-number : (x : Option ℕ) → refusalNumber (byFace c o s x .verdict) ≡ 12 → ⊥
+  face-number None e = free-number (first (isFree (s .slots)) (portsOf c s (o .subscriber))) e
+  face-number (Some p) e = omega arith
+
+  goes-number : (b : Bool) → refusalNumber (cond b (byFace c o s (faceOf c o s)) (only (Refused NoSubscriber) s) .verdict) ≡ 12 → ⊥
+  goes-number true e = face-number (faceOf c o s) e
+  goes-number false e = omega arith
+
+  error-number : (b : Bool) (x : Option ℕ) → refusalNumber (cond b (byFaceOnly o s x) (Refused NoSubscriber)) ≡ 12 → ⊥
+  error-number false x e = omega arith
+  error-number true None e = omega arith
+  error-number true (Some p) e = go (remembers (o .to) (s .slots p)) e
+    where
+      go : (b : Bool) → refusalNumber (cond b (Sent p) (Refused UnrelatedError)) ≡ 12 → ⊥
+      go true h = omega arith
+      go false h = omega arith
+
+arrival-number : (missing forgotten : Refusal) (a : ℕ) (v : Option Mapping) → (numberOf missing ≡ 12 → ⊥) → (numberOf forgotten ≡ 12 → ⊥) → refusalNumber (arrival missing forgotten a v) ≡ 12 → ⊥
+arrival-number missing forgotten a None f g e = f e
+arrival-number missing forgotten a (Some m) f g e = go (isIn a (m .remembered)) e
+  where
+    go : (b : Bool) → refusalNumber (cond b (Delivered (m .subscriber) (m .port)) (Refused forgotten)) ≡ 12 → ⊥
+    go true h = omega arith
+    go false h = g h
+
+handled-twelve : (c : Config) (e : Event) (s : State) → ((r : Refusal) → e ≡ Unreadable r → ⊥) → refusalNumber (handled c e s .verdict) ≡ 12 → handled c e s .state .over ≡ true
+handled-twelve c (Unreadable r) s read e = absurd (read r refl)
+handled-twelve c (Goes o) s read e = absurd (goes-number c o s (ltb (o .subscriber) (c .subscribers)) e)
+handled-twelve c (Comes i) s read e = absurd (arrival-number NoMapping NotRemembered (i .from) (liveAnd c (s .tick) (isOfProtocol i) (s .slots (i .port))) (λ h. omega arith) (λ h. omega arith) e)
+handled-twelve c (ErrorGoes o) s read e = absurd (error-number c o s (ltb (o .subscriber) (c .subscribers)) (faceOf c o s) e)
+handled-twelve c (ErrorComes i) s read e = absurd (arrival-number UnrelatedError UnrelatedError (i .from) (liveAnd c (s .tick) (isOfProtocol i) (s .slots (i .port))) (λ h. omega arith) (λ h. omega arith) e)
+handled-twelve c Tick s read e = go (leb lastTick (s .tick)) e
+  where
+    go : (b : Bool) → refusalNumber (cond b (exhausted s) (ticked c s) .verdict) ≡ 12 → cond b (exhausted s) (ticked c s) .state .over ≡ true
+    go true h = refl
+    go false h = absurd (omega arith)
+
+step-twelve : (c : Config) (e : Event) (s : State) → ((r : Refusal) → e ≡ Unreadable r → ⊥) → refusalNumber (step c e s .verdict) ≡ 12 → step c e s .state .over ≡ true
+step-twelve c e s read h = go (s .over || leb lastMoment (s .moment)) h
+  where
+    go : (b : Bool) → refusalNumber (cond b (exhausted s) (handled c e s) .verdict) ≡ 12 → cond b (exhausted s) (handled c e s) .state .over ≡ true
+    go true k = refl
+    go false k = handled-twelve c e s read k
+
 -- neither number passes its last value
 pub record Below (s : State) : Type 0 where
   pub moment : s .moment ≤ lastMoment
@@ -161,4 +217,4 @@ pub limits : Limits
 limits c es e =
     let b = run-below c (fresh c) (record { moment = omega arith; tick = omega arith }) es in
     let h = step-ends c e (after c es) in
-    (b .moment, b .tick, h .0, h .1)
+    (b .moment, b .tick, h .0, h .1, step-twelve c e (after c es))

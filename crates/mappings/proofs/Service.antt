@@ -93,6 +93,7 @@ given-in-need c w es e l j h =
     let same-one : n ≡ l .subscriber = ap (λ (y : Line). y .subscriber) (sym (x .line)) in
     let same-block : x .block ≡ l .block = ap (λ (y : Line). y .block) (sym (x .line)) in (
       ap senderOf (x .event) ∙ ap Some same-one,
+      subst (λ y. y < c .subscribers) same-one (x .without .one),
       subst (λ y. AllTaken c s y) same-one (all-taken c s i n (x .full)),
       subst (λ y. length (furtherOf s y) < c .further) same-one (new .fewer),
       subst (λ b. isFurther c b ≡ true) same-block (and-from (leb (c .subscribers) (x .block)) (ltb (x .block) (blocksOf c)) (le-leb (c .subscribers) (x .block) (new .from)) (lt-ltb (x .block) (blocksOf c) (new .below))),

@@ -254,6 +254,14 @@ holder-left c slots a (Some n ∷ hs) zero = ap (λ b. cond (isUsed c slots b) (
 holder-left c slots a (None ∷ hs) (suc k) = holder-left c slots (suc a) hs k ∙ ap (λ b. cond (isUsed c slots b) (getD hs k None) None) (suc-add a k ∙ sym (add-suc a k))
 holder-left c slots a (Some n ∷ hs) (suc k) = holder-left c slots (suc a) hs k ∙ ap (λ b. cond (isUsed c slots b) (getD hs k None) None) (suc-add a k ∙ sym (add-suc a k))
 
+-- a block that has a holder after a tick is a used one, and had that holder before
+pub holder-stays : (c : Config) (slots : ℕ → Option Mapping) (hs : List (Option ℕ)) (n b : ℕ) → getD (holdersLeft c slots 0 hs) b None ≡ Some n → (isUsed c slots b ≡ true) × (getD hs b None ≡ Some n)
+holder-stays c slots hs n b e = go (isUsed c slots b) refl (sym (ap (λ y. cond (isUsed c slots y) (getD hs b None) None) (zero-add b)) ∙ sym (holder-left c slots 0 hs b) ∙ e)
+  where
+    go : (t : Bool) → isUsed c slots b ≡ t → cond t (getD hs b None) None ≡ Some n → (isUsed c slots b ≡ true) × (getD hs b None ≡ Some n)
+    go true h k = (h, k)
+    go false h k = none-not-some k
+
 pub holders-length : (c : Config) (slots : ℕ → Option Mapping) (a : ℕ) (hs : List (Option ℕ)) → length (holdersLeft c slots a hs) ≡ length hs
 unfolding holdersLeft
 holders-length c slots a [] = refl
@@ -295,11 +303,9 @@ module _ (c : Config) (g : Good c) (s : State) (i : Sound c s) where
       (holder-left c slotsThen 0 (s .holders) b ∙ ap (λ y. cond (isUsed c slotsThen y) (getD (s .holders) b None) None) (zero-add b) ∙ ap (λ y. cond y (getD (s .holders) b None) None) (k .1) ∙ h .0, h .1)
 
   tick-listed : (n b : ℕ) → getD (holdersLeft c slotsThen 0 (s .holders)) b None ≡ Some n → List·Memᴰ b (furtherOf (ticked c s .state) n)
-  tick-listed n b e = go (isUsed c slotsThen b) refl (sym (ap (λ y. cond (isUsed c slotsThen y) (getD (s .holders) b None) None) (zero-add b)) ∙ sym (holder-left c slotsThen 0 (s .holders) b) ∙ e)
-    where
-      go : (t : Bool) → isUsed c slotsThen b ≡ t → cond t (getD (s .holders) b None) None ≡ Some n → List·Memᴰ b (furtherOf (ticked c s .state) n)
-      go true h k = subst (λ ys. List·Memᴰ b ys) (sym (list-kept (isUsed c slotsThen) (s .further) n)) (kept-has (isUsed c slotsThen) (furtherOf s n) b (i .listed n b k) h)
-      go false h k = none-not-some k
+  tick-listed n b e =
+      let h = holder-stays c slotsThen (s .holders) n b e in
+      subst (λ ys. List·Memᴰ b ys) (sym (list-kept (isUsed c slotsThen) (s .further) n)) (kept-has (isUsed c slotsThen) (furtherOf s n) b (i .listed n b (h .1)) (h .0))
 
   tick-most : (n : ℕ) → length (furtherOf (ticked c s .state) n) ≤ c .further
   tick-most n =

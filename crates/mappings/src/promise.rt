@@ -1,10 +1,12 @@
 // The promises, each as the contract of a function: a crate in which one of them does not hold is not built.
 ghost use Rattle.mappings.specs.Examples.{Worked};
-ghost use Rattle.mappings.specs.Promise.{Alone, Answered, ErrorsAnswered, FaceStays, FaceUsed, GivenInNeed, Held, HeldByTick, InwardsQuiet, Lasting, LetIn, Limits, Main, OneFace, OneOwner, Over, Refusals, Served, ShortBook, Traced, TracedByTick, TwoLines};
+ghost use Rattle.mappings.specs.Promise.{Agreed, Alone, Answered, ErrorsAnswered, FaceStays, FaceUsed, GivenInNeed, Held, HeldByTick, HeldInUse, InwardsQuiet, Lasting, LetIn, Limits, Main, OneFace, OneOwner, Over, Refusals, Served, ShortBook, TakenRested, Traced, TracedByTick, TwoLines};
 
 // A port in use or resting is one subscriber's, which holds its block; a live port has one face, goes out by it, and keeps it.
 pub fn one_owner_one_face()
     ensures owner { λ _. ⌜ OneOwner ⌝ }
+    ensures agreed { λ _. ⌜ Agreed ⌝ }
+    ensures busy { λ _. ⌜ HeldInUse ⌝ }
     ensures face { λ _. ⌜ OneFace ⌝ }
     ensures used { λ _. ⌜ FaceUsed ⌝ }
     ensures stays { λ _. ⌜ FaceStays ⌝ }
@@ -29,6 +31,7 @@ pub fn arrivals_are_answers()
 pub fn book_is_short()
     ensures lines { λ _. ⌜ ShortBook ⌝ }
     ensures two { λ _. ⌜ TwoLines ⌝ }
+    ensures rested { λ _. ⌜ TakenRested ⌝ }
 {}
 
 // A packet goes out unless no port is left, a further block is given only in need, and an answer is let in.
