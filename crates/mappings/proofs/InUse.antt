@@ -1,10 +1,10 @@
 -- A further block is held only while a mapping has a port of it.
-use mathlib.Core.Path.{_≡_, refl, sym, _∙_, ap, subst}
+use mathlib.Core.Path.{_≡_, refl, sym, _∙_}
 use mathlib.Core.Bool.{true}
 use mathlib.Core.List.{List, [], _∷_}
 use mathlib.Core.Logic.{⊎-elim}
 use Prim.Native.Nat.{ℕ, _+_, _≤_}
-use lib.ListN.{getD, set}
+use lib.ListN.{getD}
 use Rattle.std.specs.declared.option.Option.{Option}
 use Rattle.std.specs.declared.option.Option.the-variants.{Some, None}
 use Rattle.std.proofs.shelf.Lists.{getD-set-other}
@@ -53,10 +53,12 @@ step-used c g s u (delivers i m a k) = record { busy = u .busy }
 step-used c g s u (errs o p m a f k) = record { busy = u .busy }
 step-used c g s u (again o p m a f) = record { busy = λ n b e. put-busy c (s .slots) p (noting (s .tick) (o .to) m) b (u .busy n b e) }
 step-used c g s u (makes o p f k) = record { busy = λ n b e. put-busy c (s .slots) p (made (s .tick) o) b (u .busy n b e) }
-step-used c g s u (gives o d f a k) = record { busy = λ n b e. ⊎-elim
-    (λ (h : b ≡ d). (portOf c d 0, made (s .tick) o, lowest-in c g d .0, lowest-in c g d .1 ∙ sym h, put-same (s .slots) (portOf c d 0) (Some (made (s .tick) o)) (portOf c d 0) refl))
-    (λ (ne : b ≡ d → ⊥). put-busy c (s .slots) (portOf c d 0) (made (s .tick) o) b (u .busy n b (sym (getD-set-other (s .holders) d b (Some (o .subscriber)) None ne) ∙ e)))
-    (cases-eq b d) }
+step-used c g s u (gives o d f a k) = record {
+  busy = λ n b e. ⊎-elim
+      (λ (h : b ≡ d). (portOf c d 0, made (s .tick) o, lowest-in c g d .0, lowest-in c g d .1 ∙ sym h, put-same (s .slots) (portOf c d 0) (Some (made (s .tick) o)) (portOf c d 0) refl))
+      (λ (ne : b ≡ d → ⊥). put-busy c (s .slots) (portOf c d 0) (made (s .tick) o) b (u .busy n b (sym (getD-set-other (s .holders) d b (Some (o .subscriber)) None ne) ∙ e)))
+      (cases-eq b d);
+}
 step-used c g s u (ticks a) = record { busy = λ n b e. used-busy c g (leftAt c (s .tick + 1) (s .slots)) b (holder-stays c (leftAt c (s .tick + 1) (s .slots)) (s .holders) n b e .0) }
 
 run-used : (c : Config) → Good c → (s : State) → Used c s → (es : List Event) → Used c (stateAfter c s es)

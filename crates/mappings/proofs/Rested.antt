@@ -3,16 +3,16 @@ use mathlib.Core.Path.{_≡_, refl, sym, _∙_, ap, subst}
 use mathlib.Core.Bool.{Bool, true, false, cond}
 use mathlib.Core.List.{List, [], _∷_, _++_, append-nil, append-assoc, List·Memᴰ, List·Memᴰ·cases-cons, List·Memᴰ·eq-of-singleton, List·Memᴰ·not-nil}
 use mathlib.Core.Logic.{_⊎_, inl, inr, ⊎-elim}
-use Prim.Native.Nat.{ℕ, zero, suc, _+_, _≤_, _<_}
+use Prim.Native.Nat.{ℕ, suc, _+_, _≤_, _<_}
 use native.Mathlib.Omega.{arith}
 use native.Mathlib.Nat.{suc-add, add-suc, add-zero, zero-add}
-use lib.Dec.{eqb, leb}
-use lib.ListN.{getD, set}
+use lib.Dec.{eqb}
+use lib.ListN.{getD}
 use Rattle.std.specs.declared.option.Option.{Option}
 use Rattle.std.specs.declared.option.Option.the-variants.{Some, None}
 use Rattle.std.proofs.shelf.Lists.{getD-set-other}
 use Rattle.std.proofs.shelf.Tests.{cases-eq, cond-true, cond-false, eq-eqb, ne-eqb, leb-false}
-use Rattle.blocks.specs.Config.{Config, withinLimits, lowestPort, blocksOf}
+use Rattle.blocks.specs.Config.{Config, blocksOf}
 use Rattle.blocks.specs.Ports.{blockOf, portOf}
 use Rattle.mappings.specs.declared.event.Outward.{Outward}
 use Rattle.mappings.specs.declared.event.Event.{Event}
@@ -28,8 +28,8 @@ use Rattle.mappings.proofs.Options.{none-not-some, same-some, true-not-false}
 use Rattle.mappings.proofs.Ports.{Good, good}
 use Rattle.mappings.proofs.Shapes.{Shape, refuses, stops, delivers, errs, again, makes, gives, ticks, shape}
 use Rattle.mappings.proofs.Sound.{Sound, put-cases}
-use Rattle.mappings.proofs.Soundness.{Next, next-known, lowest-in, nobody-there, left-known, holder-stays, used-by, fresh-sound, step-sound}
-use Rattle.mappings.proofs.Faces.{sound, given-free}
+use Rattle.mappings.proofs.Soundness.{Next, next-known, nobody-there, left-known, holder-stays, used-by, fresh-sound, step-sound}
+use Rattle.mappings.proofs.Faces.{given-free}
 use Rattle.mappings.proofs.InUse.{Busy, Used, used}
 use Rattle.mappings.proofs.Givings.{given-not-taken}
 
@@ -63,6 +63,7 @@ taken-others c slots moment tick a (Some n ∷ hs) b t u = go (isUsed c slots a)
   where
     rest : List Line
     rest = takenBack c slots moment tick (suc a) hs
+
     go : (x : Bool) → isUsed c slots a ≡ x → ((y : Option ℕ) → isUsed c slots b ≡ true → givenAfter b y rest ≡ y) → givenAfter b t (cond x [] (lineOf TakenBack moment tick a n ∷ []) ++ rest) ≡ t
     go true h later = later t u
     go false h later = later (cond (eqb a b) None t) u ∙ cond-false (eqb a b) None t (ne-eqb a b (λ e. true-not-false (sym u ∙ ap (isUsed c slots) (sym e) ∙ h)))
@@ -74,22 +75,29 @@ module _ (c : Config) (g : Good c) (ls : List Line) (s : State) (i : Sound c s) 
     where
       line : Line
       line = lineOf Given (s .moment) (s .tick) d (o .subscriber)
+
       q : ℕ
       q = portOf c d 0
+
       x : Mapping
       x = made (s .tick) o
+
       slots : ℕ → Option Mapping
       slots = put (s .slots) q (Some x)
+
       says : (b : ℕ) → givenAfter b None (ls ++ line ∷ []) ≡ cond (eqb d b) (Some (s .tick)) (givenAfter b None ls)
       says b = given-on b None ls (line ∷ [])
+
       here-made : (b : ℕ) → b ≡ d → (p : ℕ) (m : Mapping) → blockOf c p ≡ b → slots p ≡ Some m → s .tick ≤ m .last
       here-made b k p m at e = go (put-cases (s .slots) q (Some x) p (Some m) e)
         where
           go : ((p ≡ q) × (Some x ≡ Some m)) ⊎ ((p ≡ q → ⊥) × (s .slots p ≡ Some m)) → s .tick ≤ m .last
           go (inl j) = subst (λ (y : Mapping). s .tick ≤ y .last) (same-some (j .1)) (omega arith)
           go (inr j) = absurd (given-free c s i (o .subscriber) d new p m (at ∙ k) (j .1))
+
       here : (b : ℕ) → b ≡ d → (t : ℕ) × (givenAfter b None (ls ++ line ∷ []) ≡ Some t) × (t ≤ s .tick) × ((p : ℕ) (m : Mapping) → blockOf c p ≡ b → slots p ≡ Some m → t ≤ m .last)
       here b k = (s .tick, says b ∙ cond-true (eqb d b) (Some (s .tick)) (givenAfter b None ls) (eq-eqb d b (sym k)), omega arith, here-made b k)
+
       there : (n b : ℕ) → (b ≡ d → ⊥) → getD (s .holders) b None ≡ Some n → (t : ℕ) × (givenAfter b None (ls ++ line ∷ []) ≡ Some t) × (t ≤ s .tick) × ((p : ℕ) (m : Mapping) → blockOf c p ≡ b → slots p ≡ Some m → t ≤ m .last)
       there n b ne e =
           let old = put-since c ls s q x b refl (h .made n b e) in
@@ -100,11 +108,15 @@ module _ (c : Config) (g : Good c) (ls : List Line) (s : State) (i : Sound c s) 
     where
       slots : ℕ → Option Mapping
       slots = leftAt c (s .tick + 1) (s .slots)
+
       stays : (n b : ℕ) → (isUsed c slots b ≡ true) × (getD (s .holders) b None ≡ Some n) → Made c (ls ++ ticked c s .lines) (ticked c s .state) b
       stays n b k =
-          let old = h .made n b (k .1) in
-          (old .0, given-on b None ls (ticked c s .lines) ∙ taken-others c slots (s .moment) (s .tick + 1) 0 (s .holders) b (givenAfter b None ls) (k .0) ∙ old .1, omega (arith, old .2),
-              λ p m at e. old .3 p m at (left-known c (s .tick + 1) (s .slots p) m e .0))
+          let old = h .made n b (k .1) in (
+            old .0,
+            given-on b None ls (ticked c s .lines) ∙ taken-others c slots (s .moment) (s .tick + 1) 0 (s .holders) b (givenAfter b None ls) (k .0) ∙ old .1,
+            omega (arith, old .2),
+            λ p m at e. old .3 p m at (left-known c (s .tick + 1) (s .slots p) m e .0),
+          )
 
   no-lines : (t : State) → Since c ls t → Since c (ls ++ []) t
   no-lines t k = subst (λ ms. Since c ms t) (sym (append-nil ls)) k
@@ -142,12 +154,15 @@ taken-known c slots moment tick a (Some n ∷ hs) l j = go (isUsed c slots a) re
   where
     rest : List Line
     rest = takenBack c slots moment tick (suc a) hs
+
     onward : Taken c slots tick (suc a) hs l → Taken c slots tick a (Some n ∷ hs) l
     onward x = (suc (x .0), x .1 ∙ suc-add a (x .0) ∙ sym (add-suc a (x .0)), x .2, x .3, x .4)
+
     here : isUsed c slots a ≡ false → l ≡ lineOf TakenBack moment tick a n → Taken c slots tick a (Some n ∷ hs) l
     here h e =
         let same-block : l .block ≡ a = ap (λ (x : Line). x .block) e in
         (0, same-block ∙ sym (add-zero a), ap Some (ap (λ (x : Line). x .subscriber) (sym e)), ap (isUsed c slots) same-block ∙ h, ap (λ (x : Line). x .tick) e)
+
     go : (b : Bool) → isUsed c slots a ≡ b → (List·Memᴰ l rest → Taken c slots tick (suc a) hs l) → List·Memᴰ l (cond b [] (lineOf TakenBack moment tick a n ∷ []) ++ rest) → Taken c slots tick a (Some n ∷ hs) l
     go true h later i = onward (later i)
     go false h later i = ⊎-elim (λ (e : l ≡ lineOf TakenBack moment tick a n). here h e) (λ (k : List·Memᴰ l rest). onward (later k)) (List·Memᴰ·cases-cons i)
@@ -159,19 +174,26 @@ tick-rested c g s ls h u l j = (old .0, old .1, subst (λ x. old .0 + c .life + 
   where
     slots : ℕ → Option Mapping
     slots = leftAt c (s .tick + 1) (s .slots)
+
     x : Taken c slots (s .tick + 1) 0 (s .holders) l
     x = taken-known c slots (s .moment) (s .tick + 1) 0 (s .holders) l j
+
     has : getD (s .holders) (l .block) None ≡ Some (l .subscriber)
     has = ap (λ b. getD (s .holders) b None) (x .1 ∙ zero-add (x .0)) ∙ x .2
+
     old : Made c ls s (l .block)
     old = h .made (l .subscriber) (l .block) has
+
     y : Busy c (s .slots) (l .block)
     y = u .busy (l .subscriber) (l .block) has
+
     m : Mapping
     m = y .1
+
     gone : (b : Bool) → liveOrResting c (s .tick + 1) m ≡ b → b ≡ false
     gone false k = refl
     gone true k = sym (used-by c g slots (y .0) m (y .2) (ap (leftOf c (s .tick + 1)) (y .4) ∙ cond-true (liveOrResting c (s .tick + 1) m) (Some m) None k)) ∙ ap (isUsed c slots) (y .3) ∙ x .3
+
     past : old .0 + c .life + c .rest < s .tick + 1
     past = omega (arith, old .3 (y .0) m (y .3) (y .4), leb-false (s .tick + 1) (m .last + c .life + c .rest) (gone (liveOrResting c (s .tick + 1) m) refl))
 

@@ -13,7 +13,9 @@ use Rattle.mappings.proofs.promise.promise_holds.Needs as need
 pub returns : need.returns
 returns c = record {
   one-owner = one-owner;
-  agreed = agreed; held-in-use = held-in-use; one-face = one-face;
+  agreed = agreed;
+  held-in-use = held-in-use;
+  one-face = one-face;
   face-used = face-used;
   face-stays = face-stays;
   traced = traced;
