@@ -1,16 +1,14 @@
 -- A run that goes on where another ended.
 use mathlib.Core.Path.{_≡_, refl, sym, _∙_, ap}
-use mathlib.Core.Bool.{Bool, true, false, cond, _||_}
+use mathlib.Core.Bool.{cond}
 use mathlib.Core.List.{List, [], _∷_, _++_, append-assoc}
-use Prim.Native.Nat.{ℕ, _<_}
 use lib.Dec.{leb}
 use Rattle.std.proofs.shelf.Tests.{or-from, lt-leb}
 use Rattle.blocks.specs.Config.{Config}
 use Rattle.mappings.specs.declared.event.Event.{Event}
-use Rattle.mappings.specs.declared.line.Line.{Line}
 use Rattle.mappings.specs.States.{State, fresh}
-use Rattle.mappings.specs.Steps.{Step, exhausted, handled, step, lastMoment}
-use Rattle.mappings.specs.Runs.{Occurrence, occurrence, stateAfter, transcriptFrom, bookFrom}
+use Rattle.mappings.specs.Steps.{exhausted, handled, step, lastMoment}
+use Rattle.mappings.specs.Runs.{occurrence, stateAfter, transcriptFrom, bookFrom}
 use Rattle.mappings.specs.Promise.{Running, after}
 
 pub state-on : (c : Config) (s : State) (es fs : List Event) → stateAfter c s (es ++ fs) ≡ stateAfter c (stateAfter c s es) fs

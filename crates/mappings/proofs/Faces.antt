@@ -1,34 +1,32 @@
 -- One port, one owner; one live port, one face; and the port stays its own until it has rested.
 use mathlib.Core.Path.{_≡_, refl, sym, _∙_, ap, subst}
-use mathlib.Core.Bool.{Bool, true, false, cond, _&&_, not}
-use mathlib.Core.List.{List, [], _∷_, _++_, List·Memᴰ, List·Memᴰ·cases-cons, Memᴰ·cast}
-use mathlib.Core.Logic.{_⊎_, inl, inr, ⊎-elim}
+use mathlib.Core.Bool.{true, cond}
+use mathlib.Core.List.{List, List·Memᴰ, List·Memᴰ·cases-cons, Memᴰ·cast}
+use mathlib.Core.Logic.{_⊎_, inl, inr}
 use Prim.Native.Nat.{ℕ, _+_, _≤_, _<_}
 use native.Mathlib.Omega.{arith}
-use lib.Dec.{eqb, leb, ltb}
+use lib.Dec.{leb, ltb}
 use lib.ListN.{getD}
 use Rattle.std.specs.declared.option.Option.{Option}
 use Rattle.std.specs.declared.option.Option.the-variants.{Some, None}
 use Rattle.std.specs.Options.{isSome}
-use Rattle.std.proofs.shelf.Tests.{cond-true, cond-false, le-leb, lt-ltb, le-ltb, eq-eqb, ne-eqb, cases-eq, not-true}
+use Rattle.std.proofs.shelf.Tests.{cond-true, cond-false, le-leb, lt-ltb, le-ltb, cases-eq, not-true}
 use Rattle.blocks.specs.Config.{Config, withinLimits, lowestPort}
 use Rattle.blocks.specs.Ports.{blockOf, portOf}
 use Rattle.mappings.specs.declared.event.Outward.{Outward}
 use Rattle.mappings.specs.declared.event.Event.{Event}
 use Rattle.mappings.specs.declared.event.Event.the-variants.{Goes}
-use Rattle.mappings.specs.declared.event.Verdict.the-variants.{Sent, Refused}
+use Rattle.mappings.specs.declared.event.Verdict.the-variants.{Refused}
 use Rattle.blocks.specs.declared.refusal.Refusal.the-variants.{NoSubscriber}
-use Rattle.mappings.specs.Searches.{first}
 use Rattle.mappings.specs.Mappings.{Mapping, live, liveOrResting, isOf, made, noting}
 use Rattle.mappings.specs.States.{State, furtherOf, portsOf, fresh}
-use Rattle.mappings.specs.Steps.{Step, put, only, isFace, isFree, leftOf, faceOf, byFace, nextBlock, handled, step}
-use Rattle.mappings.specs.Runs.{stateAfter}
-use Rattle.mappings.specs.Promise.{Running, after, holderNow, OneOwner, OneFace, FaceUsed, FaceStays}
-use Rattle.mappings.proofs.Options.{none-not-some, same-some, true-not-false, not-some}
+use Rattle.mappings.specs.Steps.{Step, put, only, isFace, isFree, leftOf, faceOf, byFace}
+use Rattle.mappings.specs.Promise.{after, holderNow, OneOwner, Agreed, OneFace, FaceUsed, FaceStays}
+use Rattle.mappings.proofs.Options.{none-not-some, same-some, not-some}
 use Rattle.mappings.proofs.Firsts.{first-some, first-only}
 use Rattle.mappings.proofs.Ports.{Good, good, blocksFor, block-port}
-use Rattle.mappings.proofs.Shapes.{Shape, Face, Faceless, refuses, stops, delivers, errs, again, makes, gives, ticks, shape}
-use Rattle.mappings.proofs.Sound.{Same, Sound, put-same, put-other, of-parts, is-face, face-test}
+use Rattle.mappings.proofs.Shapes.{Shape, refuses, stops, delivers, errs, again, makes, gives, ticks, shape}
+use Rattle.mappings.proofs.Sound.{Sound, put-same, put-other, of-parts, is-face, face-test}
 use Rattle.mappings.proofs.Soundness.{Next, next-known, lowest-in, fresh-sound, run-sound}
 use Rattle.mappings.proofs.Continued.{state-more, running}
 
@@ -49,6 +47,9 @@ one-owner c w es p m e =
     let own = i .owned p m e in
     (holds c (after c es) i (m .subscriber) p (own .0) (own .1) (own .2), i .rests p m e)
 
+pub agreed : Agreed
+agreed c w es n = let i = sound c w es in (λ b j. i .held n b j, λ b e. i .listed n b e, i .most n)
+
 pub one-face : OneFace
 one-face c w es p q m n e f l k a b d = sound c w es .face p q m n e f l k (record { subscriber = a; protocol = b; port = d })
 
@@ -61,7 +62,7 @@ face-found c g s i o p m e l k =
     (subst (λ n. List·Memᴰ p (portsOf c s n)) (its .0) (block-port c g s (m .subscriber) p (own .1) (own .2)))
     (is-face c (s .tick) (s .slots) o p m e l k)
     (λ z h. let t = face-test c (s .tick) (s .slots) o z h in let z-its = of-parts o (t .0) (t .3) in
-        i .face z p (t .0) m (t .1) e (t .2) l (record { subscriber = z-its .0 ∙ sym (its .0); protocol = z-its .1 ∙ sym (its .1); port = z-its .2 ∙ sym (its .2) }))
+    i .face z p (t .0) m (t .1) e (t .2) l (record { subscriber = z-its .0 ∙ sym (its .0); protocol = z-its .1 ∙ sym (its .1); port = z-its .2 ∙ sym (its .2) }))
 
 pub face-used : FaceUsed
 face-used c w es r p m o e l k =
@@ -69,15 +70,14 @@ face-used c w es r p m o e l k =
     let i = sound c w es in
     let one : o .subscriber < c .subscribers = subst (λ n. n < c .subscribers) (of-parts o m k .0) (i .owned p m e .0) in
     ap (λ x. x .verdict) (running c (Goes o) s r
-        ∙ cond-true (ltb (o .subscriber) (c .subscribers)) (byFace c o s (faceOf c o s)) (only (Refused NoSubscriber) s) (lt-ltb (o .subscriber) (c .subscribers) one)
-        ∙ ap (byFace c o s) (face-found c (good c w) s i o p m e l k))
+    ∙ cond-true (ltb (o .subscriber) (c .subscribers)) (byFace c o s (faceOf c o s)) (only (Refused NoSubscriber) s) (lt-ltb (o .subscriber) (c .subscribers) one)
+    ∙ ap (byFace c o s) (face-found c (good c w) s i o p m e l k))
 
--- the lowest port of a block that nobody has is free
-pub given-free : (c : Config) → Good c → (s : State) → Sound c s → (n b : ℕ) → Next c s n b → (m : Mapping) → s .slots (portOf c b 0) ≡ Some m → ⊥
-given-free c g s i n b new m e =
-    let own = i .owned (portOf c b 0) m e in
-    let at = lowest-in c g b in
-    go (List·Memᴰ·cases-cons (Memᴰ·cast (sym (at .1)) (own .2))) (own .0)
+-- no mapping has a port of a further block that nobody has
+pub given-free : (c : Config) (s : State) → Sound c s → (n b : ℕ) → Next c s n b → (p : ℕ) (m : Mapping) → blockOf c p ≡ b → s .slots p ≡ Some m → ⊥
+given-free c s i n b new p m at e =
+    let own = i .owned p m e in
+    go (List·Memᴰ·cases-cons (Memᴰ·cast (sym at) (own .2))) (own .0)
   where
     go : (b ≡ m .subscriber) ⊎ List·Memᴰ b (furtherOf s (m .subscriber)) → m .subscriber < c .subscribers → ⊥
     go (inl k) one = omega (arith, new .from)
@@ -103,9 +103,14 @@ stays c g s i (makes o q f e) p m h l =
   where
     free : p ≡ q → s .slots p ≡ None
     free k = ap (s .slots) k ∙ not-some (s .slots q) (not-true (isSome (s .slots q)) (first-some (isFree (s .slots)) (portsOf c s (o .subscriber)) q e .1))
-stays c g s i (gives o b f a e) p m h l =
-    (m, put-other (s .slots) (portOf c b 0) (Some (made (s .tick) o)) p
-        (λ k. given-free c g s i (o .subscriber) b (next-known c g s (o .subscriber) b e) m (ap (s .slots) (sym k) ∙ h)) ∙ h, refl, refl, refl)
+stays c g s i (gives o b f a e) p m h l = (
+  m,
+  put-other (s .slots) (portOf c b 0) (Some (made (s .tick) o)) p
+      (λ k. given-free c s i (o .subscriber) b (next-known c g s (o .subscriber) b e) p m (ap (blockOf c) k ∙ lowest-in c g b .1) h) ∙ h,
+  refl,
+  refl,
+  refl,
+)
 stays c g s i (ticks a) p m h l =
     (m, ap (leftOf c (s .tick + 1)) h ∙ cond-true (liveOrResting c (s .tick + 1) m) (Some m) None l, refl, refl, refl)
 

@@ -7,11 +7,13 @@ pub mod Sound
 pub mod Soundness
 pub mod Continued
 pub mod Faces
+pub mod InUse
 pub mod Lines
 pub mod Replay
 pub mod Moments
 pub mod Tracing
 pub mod Givings
+pub mod Rested
 pub mod TracingByTick
 pub mod Answers
 pub mod Service

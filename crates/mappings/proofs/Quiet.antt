@@ -1,26 +1,28 @@
 -- What a refusal leaves as it was, and how a run ends.
-use mathlib.Core.Path.{_≡_, refl, sym, _∙_, ap, subst}
+use mathlib.Core.Path.{_≡_, refl, sym, _∙_, ap}
 use mathlib.Core.Bool.{Bool, true, false, cond, _||_}
 use mathlib.Core.List.{List, [], _∷_, _++_, append-nil}
-use mathlib.Core.Logic.{_⊎_, inl, inr, ⊎-elim}
-use Prim.Native.Nat.{ℕ, _+_, _≤_, _<_}
+use mathlib.Core.Logic.{_⊎_, inl, inr}
+use Prim.Native.Nat.{ℕ, _≤_, _<_}
 use native.Mathlib.Omega.{arith}
 use lib.Dec.{leb, ltb}
 use Rattle.std.specs.declared.option.Option.{Option}
 use Rattle.std.specs.declared.option.Option.the-variants.{Some, None}
-use Rattle.std.proofs.shelf.Tests.{or-parts, or-from, leb-true, leb-false, cond-true, cond-false}
+use Rattle.std.proofs.shelf.Tests.{or-parts, leb-false}
 use Rattle.blocks.specs.Config.{Config}
 use Rattle.blocks.specs.declared.refusal.Refusal.{Refusal}
-use Rattle.blocks.specs.declared.refusal.Refusal.the-variants.{NoSubscriber}
+use Rattle.blocks.specs.declared.refusal.Refusal.the-variants.{NoSubscriber, NoMapping, NotRemembered, UnrelatedError}
+use Rattle.blocks.specs.Refusals.{numberOf}
 use Rattle.mappings.specs.declared.event.Outward.{Outward}
+use Rattle.mappings.specs.Mappings.{Mapping, isIn}
 use Rattle.mappings.specs.declared.event.Event.{Event}
 use Rattle.mappings.specs.declared.event.Event.the-variants.{Unreadable, Goes, Comes, ErrorGoes, ErrorComes, Tick}
-use Rattle.mappings.specs.declared.event.Verdict.the-variants.{Sent, Delivered, Refused, Ticked}
+use Rattle.mappings.specs.declared.event.Verdict.the-variants.{Sent, Delivered, Refused}
 use Rattle.mappings.specs.Searches.{first}
 use Rattle.mappings.specs.States.{State, fresh, portsOf}
-use Rattle.mappings.specs.Steps.{Step, counted, ended, exhausted, handled, ticked, only, isFree, faceOf, nextBlock, byNextBlock, byFree, byFace, goes, step, lastTick, lastMoment}
+use Rattle.mappings.specs.Steps.{Step, counted, ended, exhausted, handled, ticked, only, isFree, faceOf, nextBlock, byNextBlock, byFree, byFace, byFaceOnly, goes, remembers, arrival, liveAnd, isOfProtocol, step, lastTick, lastMoment}
 use Rattle.mappings.specs.Runs.{stateAfter, bookFrom}
-use Rattle.mappings.specs.Promise.{after, refusalNumber, Unchanged, changesMappings, atLimit, Refusals, InwardsQuiet, Over, Limits}
+use Rattle.mappings.specs.Promise.{after, refusalNumber, changesMappings, atLimit, Refusals, InwardsQuiet, Over, Limits}
 use Rattle.mappings.proofs.Options.{true-not-false}
 use Rattle.mappings.proofs.Shapes.{Shape, refuses, stops, delivers, errs, again, makes, gives, ticks, shape, handled-shape}
 use Rattle.mappings.proofs.Continued.{state-on, book-on}
@@ -57,10 +59,11 @@ pub inwards-quiet : InwardsQuiet
 inwards-quiet c es e v = inward-quiet c (after c es) (shape c e (after c es)) v
 
 pub over : Over
-over c es later e h =
-    (state-on c (fresh c) es later ∙ over-state c (after c es) h later,
-        book-on c (fresh c) es later ∙ ap (λ ls. bookFrom c (fresh c) es ++ ls) (over-book c (after c es) h later) ∙ append-nil (bookFrom c (fresh c) es),
-        ap (λ (r : Step). refusalNumber (r .verdict)) (over-step c e (after c es) h))
+over c es later e h = (
+  state-on c (fresh c) es later ∙ over-state c (after c es) h later,
+  book-on c (fresh c) es later ∙ ap (λ ls. bookFrom c (fresh c) es ++ ls) (over-book c (after c es) h later) ∙ append-nil (bookFrom c (fresh c) es),
+  ap (λ (r : Step). refusalNumber (r .verdict)) (over-step c e (after c es) h),
+)
 
 -- a packet outwards never ends a run
 module _ (c : Config) (o : Outward) (s : State) where
@@ -100,6 +103,7 @@ handled-ends c Tick s a b = go (leb lastTick (s .tick)) refl
   where
     limit : (x : Bool) → leb lastTick (s .tick) ≡ x → atLimit s Tick ≡ x
     limit x h = ap (λ y. y || leb lastTick (s .tick)) b ∙ h
+
     go : (x : Bool) → leb lastTick (s .tick) ≡ x → Ends s Tick (cond x (exhausted s) (ticked c s))
     go true h = (sym (limit true h), λ k. refl)
     go false h = (a ∙ sym (limit false h), λ k. true-not-false (sym k ∙ a))
@@ -124,6 +128,60 @@ step-ends c e s = go (s .over) (leb lastMoment (s .moment)) refl refl
     go false true a b = (sym (ap (λ z. z || atLimit s e) a ∙ last-limit s e b), λ k. refl)
     go false false a b = let h = handled-ends c e s a b in (h .0 ∙ sym (ap (λ z. z || atLimit s e) a), h .1)
 
+-- what was read and can be counted is refused with 12 at the last tick alone
+module _ (c : Config) (o : Outward) (s : State) where
+  next-number : (x : Option ℕ) → refusalNumber (byNextBlock c o s x .verdict) ≡ 12 → ⊥
+  next-number None e = omega arith
+  next-number (Some b) e = omega arith
+
+  free-number : (x : Option ℕ) → refusalNumber (byFree c o s x .verdict) ≡ 12 → ⊥
+  free-number None e = next-number (nextBlock c s (o .subscriber)) e
+  free-number (Some p) e = omega arith
+
+  face-number : (x : Option ℕ) → refusalNumber (byFace c o s x .verdict) ≡ 12 → ⊥
+  face-number None e = free-number (first (isFree (s .slots)) (portsOf c s (o .subscriber))) e
+  face-number (Some p) e = omega arith
+
+  goes-number : (b : Bool) → refusalNumber (cond b (byFace c o s (faceOf c o s)) (only (Refused NoSubscriber) s) .verdict) ≡ 12 → ⊥
+  goes-number true e = face-number (faceOf c o s) e
+  goes-number false e = omega arith
+
+  error-number : (b : Bool) (x : Option ℕ) → refusalNumber (cond b (byFaceOnly o s x) (Refused NoSubscriber)) ≡ 12 → ⊥
+  error-number false x e = omega arith
+  error-number true None e = omega arith
+  error-number true (Some p) e = go (remembers (o .to) (s .slots p)) e
+    where
+      go : (b : Bool) → refusalNumber (cond b (Sent p) (Refused UnrelatedError)) ≡ 12 → ⊥
+      go true h = omega arith
+      go false h = omega arith
+
+arrival-number : (missing forgotten : Refusal) (a : ℕ) (v : Option Mapping) → (numberOf missing ≡ 12 → ⊥) → (numberOf forgotten ≡ 12 → ⊥) → refusalNumber (arrival missing forgotten a v) ≡ 12 → ⊥
+arrival-number missing forgotten a None f g e = f e
+arrival-number missing forgotten a (Some m) f g e = go (isIn a (m .remembered)) e
+  where
+    go : (b : Bool) → refusalNumber (cond b (Delivered (m .subscriber) (m .port)) (Refused forgotten)) ≡ 12 → ⊥
+    go true h = omega arith
+    go false h = g h
+
+handled-twelve : (c : Config) (e : Event) (s : State) → ((r : Refusal) → e ≡ Unreadable r → ⊥) → refusalNumber (handled c e s .verdict) ≡ 12 → handled c e s .state .over ≡ true
+handled-twelve c (Unreadable r) s read e = absurd (read r refl)
+handled-twelve c (Goes o) s read e = absurd (goes-number c o s (ltb (o .subscriber) (c .subscribers)) e)
+handled-twelve c (Comes i) s read e = absurd (arrival-number NoMapping NotRemembered (i .from) (liveAnd c (s .tick) (isOfProtocol i) (s .slots (i .port))) (λ h. omega arith) (λ h. omega arith) e)
+handled-twelve c (ErrorGoes o) s read e = absurd (error-number c o s (ltb (o .subscriber) (c .subscribers)) (faceOf c o s) e)
+handled-twelve c (ErrorComes i) s read e = absurd (arrival-number UnrelatedError UnrelatedError (i .from) (liveAnd c (s .tick) (isOfProtocol i) (s .slots (i .port))) (λ h. omega arith) (λ h. omega arith) e)
+handled-twelve c Tick s read e = go (leb lastTick (s .tick)) e
+  where
+    go : (b : Bool) → refusalNumber (cond b (exhausted s) (ticked c s) .verdict) ≡ 12 → cond b (exhausted s) (ticked c s) .state .over ≡ true
+    go true h = refl
+    go false h = absurd (omega arith)
+
+step-twelve : (c : Config) (e : Event) (s : State) → ((r : Refusal) → e ≡ Unreadable r → ⊥) → refusalNumber (step c e s .verdict) ≡ 12 → step c e s .state .over ≡ true
+step-twelve c e s read h = go (s .over || leb lastMoment (s .moment)) h
+  where
+    go : (b : Bool) → refusalNumber (cond b (exhausted s) (handled c e s) .verdict) ≡ 12 → cond b (exhausted s) (handled c e s) .state .over ≡ true
+    go true k = refl
+    go false k = handled-twelve c e s read k
+
 -- neither number passes its last value
 pub record Below (s : State) : Type 0 where
   pub moment : s .moment ≤ lastMoment
@@ -145,6 +203,7 @@ step-moment c e s l = go (s .over || leb lastMoment (s .moment)) refl
     counted-on : s .moment < lastMoment → Counted s (handled c e s) → handled c e s .state .moment ≤ lastMoment
     counted-on h (inl k) = omega arith
     counted-on h (inr k) = omega (arith, k .0)
+
     go : (b : Bool) → (s .over || leb lastMoment (s .moment)) ≡ b → cond b (exhausted s) (handled c e s) .state .moment ≤ lastMoment
     go true h = l
     go false h = counted-on (leb-false lastMoment (s .moment) (or-parts (s .over) (leb lastMoment (s .moment)) h .1)) (step-counted c s (handled-shape c e s))
@@ -158,4 +217,4 @@ pub limits : Limits
 limits c es e =
     let b = run-below c (fresh c) (record { moment = omega arith; tick = omega arith }) es in
     let h = step-ends c e (after c es) in
-    (b .moment, b .tick, h .0, h .1)
+    (b .moment, b .tick, h .0, h .1, step-twelve c e (after c es))

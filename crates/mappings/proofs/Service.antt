@@ -1,23 +1,22 @@
 -- Who has a free port is served, blocks are given in need alone, and what is remembered is let in.
 use mathlib.Core.Path.{_≡_, refl, sym, _∙_, ap, subst}
-use mathlib.Core.Bool.{Bool, true, false, cond, _&&_, not}
-use mathlib.Core.List.{List, [], _∷_, _++_, List·Memᴰ}
-use mathlib.Core.Logic.{_⊎_, inl, inr, ⊎-elim}
-use Prim.Native.Nat.{ℕ, suc, _+_, _-_, _≤_, _<_}
+use mathlib.Core.Bool.{Bool, true, false, cond, _&&_}
+use mathlib.Core.List.{List, List·Memᴰ}
+use mathlib.Core.Logic.{_⊎_, inl, inr}
+use Prim.Native.Nat.{ℕ, _-_, _≤_, _<_}
 use native.Mathlib.Omega.{arith}
-use lib.Dec.{eqb, leb, ltb}
+use lib.Dec.{leb, ltb}
 use lib.ListN.{length, getD}
 use Rattle.std.specs.declared.option.Option.{Option}
 use Rattle.std.specs.declared.option.Option.the-variants.{Some, None}
 use Rattle.std.specs.Options.{isSome}
 use Rattle.std.proofs.shelf.Tests.{cond-true, and-parts, and-from, lt-ltb, ltb-true, ltb-false, le-leb, leb-true, not-false}
-use Rattle.blocks.specs.Config.{Config, withinLimits, blocksOf}
+use Rattle.blocks.specs.Config.{Config, blocksOf}
 use Rattle.blocks.specs.Ports.{isFurther}
 use Rattle.blocks.specs.declared.refusal.Refusal.{Refusal}
 use Rattle.blocks.specs.declared.refusal.Refusal.the-variants.{NoSubscriber, NoMapping, NotRemembered, UnrelatedError}
 use Rattle.mappings.specs.declared.event.Outward.{Outward}
 use Rattle.mappings.specs.declared.event.Inward.{Inward}
-use Rattle.mappings.specs.declared.event.Event.{Event}
 use Rattle.mappings.specs.declared.event.Event.the-variants.{Goes, Comes, ErrorComes}
 use Rattle.mappings.specs.declared.event.Verdict.{Verdict}
 use Rattle.mappings.specs.declared.event.Verdict.the-variants.{Sent, Delivered, Refused}
@@ -25,14 +24,14 @@ use Rattle.mappings.specs.declared.line.Line.{Line}
 use Rattle.mappings.specs.Searches.{range, first}
 use Rattle.mappings.specs.Mappings.{Mapping, live, isIn}
 use Rattle.mappings.specs.States.{State, furtherOf, portsOf}
-use Rattle.mappings.specs.Steps.{Step, only, isFree, isUnheld, isOfProtocol, liveAnd, arrival, faceOf, nextBlock, byNextBlock, byFree, byFace, comes, handled, step}
-use Rattle.mappings.specs.Promise.{Running, after, senderOf, refusalNumber, AllTaken, NoBlock, Served, GivenInNeed, LetIn}
-use Rattle.mappings.proofs.Options.{none-not-some, same-some, true-not-false, is-some}
-use Rattle.mappings.proofs.Firsts.{first-none, first-lowest, range-has, has-range}
+use Rattle.mappings.specs.Steps.{Step, only, isFree, isUnheld, isOfProtocol, liveAnd, arrival, faceOf, nextBlock, byNextBlock, byFree, byFace, comes}
+use Rattle.mappings.specs.Promise.{after, senderOf, refusalNumber, AllTaken, NoBlock, Served, GivenInNeed, LetIn}
+use Rattle.mappings.proofs.Options.{is-some}
+use Rattle.mappings.proofs.Firsts.{first-none, first-lowest, range-has}
 use Rattle.mappings.proofs.Ports.{Good, good}
-use Rattle.mappings.proofs.Shapes.{Shape, shape}
+use Rattle.mappings.proofs.Shapes.{shape}
 use Rattle.mappings.proofs.Sound.{Sound}
-use Rattle.mappings.proofs.Soundness.{Next, next-known}
+use Rattle.mappings.proofs.Soundness.{next-known}
 use Rattle.mappings.proofs.Continued.{running}
 use Rattle.mappings.proofs.Faces.{sound}
 use Rattle.mappings.proofs.Givings.{given-by}
@@ -56,6 +55,7 @@ no-block c g s n e = go (ltb (length (furtherOf s n)) (c .further)) refl e
   where
     search-list : List ℕ
     search-list = range (c .subscribers) (blocksOf c - c .subscribers)
+
     go : (b : Bool) → ltb (length (furtherOf s n)) (c .further) ≡ b → cond b (first (isUnheld (s .holders)) search-list) None ≡ None → NoBlock c s n
     go false h k = inl (ltb-false (length (furtherOf s n)) (c .further) h)
     go true h k = inr (λ b f. not-false (isSome (getD (s .holders) b None)) (first-none (isUnheld (s .holders)) search-list k b (further-range c g b f)))
@@ -91,15 +91,17 @@ given-in-need c w es e l j h =
     let n = x .packet .subscriber in
     let new = next-known c (good c w) s n (x .block) (x .next) in
     let same-one : n ≡ l .subscriber = ap (λ (y : Line). y .subscriber) (sym (x .line)) in
-    let same-block : x .block ≡ l .block = ap (λ (y : Line). y .block) (sym (x .line)) in
-    (ap senderOf (x .event) ∙ ap Some same-one,
-        subst (λ y. AllTaken c s y) same-one (all-taken c s i n (x .full)),
-        subst (λ y. length (furtherOf s y) < c .further) same-one (new .fewer),
-        subst (λ b. isFurther c b ≡ true) same-block (and-from (leb (c .subscribers) (x .block)) (ltb (x .block) (blocksOf c)) (le-leb (c .subscribers) (x .block) (new .from)) (lt-ltb (x .block) (blocksOf c) (new .below))),
-        subst (λ b. getD (s .holders) b None ≡ None) same-block (new .unheld),
-        λ b f k. not-false (isSome (getD (s .holders) b None))
-            (first-lowest (isUnheld (s .holders)) (c .subscribers) (blocksOf c - c .subscribers) (x .block) b (new .found)
-                (leb-true (c .subscribers) b (and-parts (leb (c .subscribers) b) (ltb b (blocksOf c)) f .0)) (subst (λ y. b < y) (sym same-block) k)))
+    let same-block : x .block ≡ l .block = ap (λ (y : Line). y .block) (sym (x .line)) in (
+      ap senderOf (x .event) ∙ ap Some same-one,
+      subst (λ y. y < c .subscribers) same-one (x .without .one),
+      subst (λ y. AllTaken c s y) same-one (all-taken c s i n (x .full)),
+      subst (λ y. length (furtherOf s y) < c .further) same-one (new .fewer),
+      subst (λ b. isFurther c b ≡ true) same-block (and-from (leb (c .subscribers) (x .block)) (ltb (x .block) (blocksOf c)) (le-leb (c .subscribers) (x .block) (new .from)) (lt-ltb (x .block) (blocksOf c) (new .below))),
+      subst (λ b. getD (s .holders) b None ≡ None) same-block (new .unheld),
+      λ b f k. not-false (isSome (getD (s .holders) b None))
+          (first-lowest (isUnheld (s .holders)) (c .subscribers) (blocksOf c - c .subscribers) (x .block) b (new .found)
+          (leb-true (c .subscribers) b (and-parts (leb (c .subscribers) b) (ltb b (blocksOf c)) f .0)) (subst (λ y. b < y) (sym same-block) k)),
+    )
 
 -- a live mapping of the protocol that remembers the address lets in
 let-in-by : (c : Config) (s : State) (i : Inward) (m : Mapping) (missing forgotten : Refusal) → s .slots (i .port) ≡ Some m → live c (s .tick) m ≡ true → isOfProtocol i m ≡ true → isIn (i .from) (m .remembered) ≡ true →
@@ -111,6 +113,7 @@ let-in-by c s i m missing forgotten e l k r =
 
 pub let-in : LetIn
 let-in c w es r i m e l k d =
-    let s = after c es in
-    (ap (λ (x : Step). x .verdict) (running c (Comes i) s r) ∙ let-in-by c s i m NoMapping NotRemembered e l k d,
-        ap (λ (x : Step). x .verdict) (running c (ErrorComes i) s r) ∙ let-in-by c s i m UnrelatedError UnrelatedError e l k d)
+    let s = after c es in (
+      ap (λ (x : Step). x .verdict) (running c (Comes i) s r) ∙ let-in-by c s i m NoMapping NotRemembered e l k d,
+      ap (λ (x : Step). x .verdict) (running c (ErrorComes i) s r) ∙ let-in-by c s i m UnrelatedError UnrelatedError e l k d,
+    )

@@ -1,28 +1,27 @@
 -- The shapes that a step can have, each with what is known where it has it. Every law of one step goes by these cases.
-use mathlib.Core.Path.{_≡_, refl, sym, _∙_, ap, subst}
+use mathlib.Core.Path.{_≡_, refl, sym, subst}
 use mathlib.Core.Bool.{Bool, true, false, cond, _&&_, _||_}
-use mathlib.Core.List.{List, [], _∷_, _++_, List·Memᴰ}
-use Prim.Native.Nat.{ℕ, suc, _+_, _-_, _≤_, _<_}
-use lib.Dec.{eqb, leb, ltb}
+use mathlib.Core.List.{List·Memᴰ}
+use Prim.Native.Nat.{ℕ, _<_}
+use lib.Dec.{leb, ltb}
 use Rattle.std.specs.declared.option.Option.{Option}
 use Rattle.std.specs.declared.option.Option.the-variants.{Some, None}
 use Rattle.std.specs.Options.{isSome}
 use Rattle.std.proofs.shelf.Tests.{and-parts, ltb-true, leb-false}
-use Rattle.blocks.specs.Config.{Config, blocksOf}
+use Rattle.blocks.specs.Config.{Config}
 use Rattle.blocks.specs.declared.refusal.Refusal.{Refusal}
-use Rattle.blocks.specs.declared.refusal.Refusal.the-variants.{NoSubscriber, NoPort, NoMapping, NotRemembered, UnrelatedError, Exhausted}
+use Rattle.blocks.specs.declared.refusal.Refusal.the-variants.{NoSubscriber, NoPort, NoMapping, NotRemembered, UnrelatedError}
 use Rattle.mappings.specs.declared.event.Outward.{Outward}
 use Rattle.mappings.specs.declared.event.Inward.{Inward}
 use Rattle.mappings.specs.declared.event.Event.{Event}
 use Rattle.mappings.specs.declared.event.Event.the-variants.{Unreadable, Goes, Comes, ErrorGoes, ErrorComes, Tick}
-use Rattle.mappings.specs.declared.event.Verdict.{Verdict}
-use Rattle.mappings.specs.declared.event.Verdict.the-variants.{Sent, Delivered, Refused, Ticked}
-use Rattle.mappings.specs.Searches.{range, first}
+use Rattle.mappings.specs.declared.event.Verdict.the-variants.{Sent, Delivered, Refused}
+use Rattle.mappings.specs.Searches.{first}
 use Rattle.mappings.specs.Mappings.{Mapping, live, isOf, isIn, made, noting}
 use Rattle.mappings.specs.States.{State, portsOf}
-use Rattle.mappings.specs.Steps.{Step, only, exhausted, sentBy, byNextBlock, byFree, byFace, byFaceOnly, notingAt, ticked, faceOf, isFace, isFree, isOfProtocol, liveAnd, remembers, arrival, comes, nextBlock, handled, lastTick, lastMoment, step}
+use Rattle.mappings.specs.Steps.{Step, only, exhausted, sentBy, byNextBlock, byFree, byFace, byFaceOnly, notingAt, ticked, faceOf, isFace, isFree, isOfProtocol, liveAnd, remembers, arrival, nextBlock, handled, lastTick, lastMoment, step}
 use Rattle.mappings.specs.Promise.{inwardOf}
-use Rattle.mappings.proofs.Options.{none-not-some, same-some, true-not-false}
+use Rattle.mappings.proofs.Options.{true-not-false}
 use Rattle.mappings.proofs.Firsts.{first-some}
 
 -- the live mapping m of the subscriber's port is at the port p
@@ -61,9 +60,11 @@ face-known c s o p v e k = go v k (subst (λ w. isSome (liveAnd c (s .tick) (isO
   where
     found : List·Memᴰ p (portsOf c s (o .subscriber)) × (isFace c (s .tick) (s .slots) o p ≡ true)
     found = first-some (isFace c (s .tick) (s .slots) o) (portsOf c s (o .subscriber)) p e
+
     at : (m : Mapping) → s .slots p ≡ Some m → (b : Bool) → (live c (s .tick) m && isOf o m) ≡ b → isSome (cond b (Some m) None) ≡ true → Face c s o p m
     at m h true q t = let both = and-parts (live c (s .tick) m) (isOf o m) q in record { among = found .0; there = h; lives = both .0; its = both .1 }
     at m h false q t = true-not-false (sym t)
+
     go : (w : Option Mapping) → s .slots p ≡ w → isSome (liveAnd c (s .tick) (isOf o) w) ≡ true → (m : Mapping) × (w ≡ Some m) × Face c s o p m
     go None h t = true-not-false (sym t)
     go (Some m) h t = (m, refl, at m h (live c (s .tick) m && isOf o m) refl t)

@@ -1,34 +1,27 @@
 -- What holds of every state that a run comes to: each mapping lies in a block of its subscriber, the lists of further blocks and their holders agree,
 -- no mapping is kept past its rest, and no live port has two faces.
-use mathlib.Core.Path.{_≡_, refl, sym, _∙_, ap, subst}
-use mathlib.Core.Bool.{Bool, true, false, cond, _&&_, _||_, not}
-use mathlib.Core.List.{List, [], _∷_, _++_, map, List·Memᴰ, List·Memᴰ·head, List·Memᴰ·tail, List·Memᴰ·cases-cons, List·Memᴰ·append-cases, Memᴰ·append-left, Memᴰ·append-right, Memᴰ·cast}
-use mathlib.Core.Logic.{_⊎_, inl, inr, ⊎-elim}
-use Prim.Native.Nat.{ℕ, zero, suc, _+_, _-_, _*_, _≤_, _<_}
-use native.Mathlib.Omega.{arith}
-use native.Mathlib.Nat.{suc-add, add-suc, add-zero, zero-add}
-use lib.Dec.{eqb, leb, ltb}
-use lib.ListN.{length, getD, set, replicate}
+use mathlib.Core.Path.{_≡_, refl, sym, _∙_, subst}
+use mathlib.Core.Bool.{Bool, true, false, cond, _&&_}
+use mathlib.Core.List.{List·Memᴰ}
+use mathlib.Core.Logic.{_⊎_, inl, inr}
+use Prim.Native.Nat.{ℕ, _≤_, _<_}
+use lib.Dec.{eqb}
+use lib.ListN.{length, getD}
 use Rattle.std.specs.declared.option.Option.{Option}
 use Rattle.std.specs.declared.option.Option.the-variants.{Some, None}
 use Rattle.std.specs.Options.{isSome}
-use Rattle.std.specs.Changed.{kept-by}
-use Rattle.std.proofs.shelf.Lists.{length-set, length-map, length-replicate, getD-set-same, getD-set-other, getD-past}
-use Rattle.std.proofs.shelf.Tests.{cond-true, cond-false, ne-eqb, and-parts, and-from, eqb-true, eqb-false, eq-eqb, leb-true, le-leb, cases-eq, cases-bool, not-true, not-false, ltb-true}
+use Rattle.std.proofs.shelf.Tests.{cond-true, cond-false, ne-eqb, and-parts, and-from, eqb-true, eqb-false, eq-eqb}
 use Rattle.blocks.specs.Config.{Config, lowestPort, blocksOf}
-use Rattle.blocks.specs.Ports.{blockOf, portOf}
+use Rattle.blocks.specs.Ports.{blockOf}
 use Rattle.mappings.specs.declared.event.Protocol.{Protocol}
 use Rattle.mappings.specs.declared.event.Protocol.the-variants.{Udp, Tcp, Echo}
 use Rattle.mappings.specs.declared.event.Outward.{Outward}
-use Rattle.mappings.specs.declared.event.Event.{Event}
-use Rattle.mappings.specs.Searches.{range, first}
-use Rattle.mappings.specs.Mappings.{Mapping, live, liveOrResting, sameProtocol, isOf, made, noting}
-use Rattle.mappings.specs.States.{State, noMapping, fresh, blockPorts, furtherOf, portsOf}
-use Rattle.mappings.specs.Steps.{Step, put, liveAnd, isFace, isFree, isTaken, isUsed, isUnheld, leftOf, leftAt, faceOf, nextBlock, byNextBlock, sentBy, withBlock, holdersLeft, ticked, step}
-use Rattle.mappings.proofs.Options.{none-not-some, same-some, true-not-false, not-some, is-some}
-use Rattle.mappings.proofs.Firsts.{first-some, first-none, has-range}
-use Rattle.mappings.proofs.Ports.{Good, in-block, block-has, blocksFor, port-block, block-port}
-use Rattle.mappings.proofs.Shapes.{Shape, Face, Known, Faceless, refuses, stops, delivers, errs, again, makes, gives, ticks, shape}
+use Rattle.mappings.specs.Mappings.{Mapping, live, liveOrResting, sameProtocol, isOf}
+use Rattle.mappings.specs.States.{State, furtherOf, portsOf}
+use Rattle.mappings.specs.Steps.{put, liveAnd, isFace, faceOf}
+use Rattle.mappings.proofs.Options.{true-not-false}
+use Rattle.mappings.proofs.Firsts.{first-none}
+use Rattle.mappings.proofs.Ports.{Good, blocksFor, block-port}
 
 -- the same subscriber's protocol and port
 pub record Same (m n : Mapping) : Type 0 where
@@ -111,6 +104,7 @@ face-test c t slots o p e = go (slots p) refl e
     at : (m : Mapping) → (b : Bool) → (live c t m && isOf o m) ≡ b → isSome (cond b (Some m) None) ≡ true → (live c t m ≡ true) × (isOf o m ≡ true)
     at m true q k = and-parts (live c t m) (isOf o m) q
     at m false q k = true-not-false (sym k)
+
     go : (v : Option Mapping) → slots p ≡ v → isSome (liveAnd c t (isOf o) v) ≡ true → (m : Mapping) × (slots p ≡ Some m) × (live c t m ≡ true) × (isOf o m ≡ true)
     go None h k = true-not-false (sym k)
     go (Some m) h k = let both = at m (live c t m && isOf o m) refl k in (m, h, both .0, both .1)

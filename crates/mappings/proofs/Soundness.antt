@@ -1,12 +1,12 @@
 -- Every step keeps a state sound, and so every run does.
 use mathlib.Core.Path.{_≡_, refl, sym, _∙_, ap, subst}
-use mathlib.Core.Bool.{Bool, true, false, cond, _&&_, _||_, not}
+use mathlib.Core.Bool.{Bool, true, false, cond}
 use mathlib.Core.List.{List, [], _∷_, _++_, map, List·Memᴰ, List·Memᴰ·head, List·Memᴰ·tail, List·Memᴰ·cases-cons, List·Memᴰ·append-cases, List·Memᴰ·eq-of-singleton, Memᴰ·append-left, Memᴰ·append-right, Memᴰ·cast}
 use mathlib.Core.Logic.{_⊎_, inl, inr, ⊎-elim}
-use Prim.Native.Nat.{ℕ, zero, suc, _+_, _-_, _*_, _≤_, _<_}
+use Prim.Native.Nat.{ℕ, zero, suc, _+_, _-_, _≤_, _<_}
 use native.Mathlib.Omega.{arith}
 use native.Mathlib.Nat.{suc-add, add-suc, add-zero, zero-add}
-use lib.Dec.{eqb, leb, ltb}
+use lib.Dec.{leb, ltb}
 use lib.ListN.{length, getD, set, replicate}
 use Rattle.std.specs.declared.option.Option.{Option}
 use Rattle.std.specs.declared.option.Option.the-variants.{Some, None}
@@ -19,15 +19,15 @@ use Rattle.blocks.specs.Ports.{blockOf, portOf}
 use Rattle.mappings.specs.declared.event.Outward.{Outward}
 use Rattle.mappings.specs.declared.event.Event.{Event}
 use Rattle.mappings.specs.Searches.{range, first}
-use Rattle.mappings.specs.Mappings.{Mapping, live, liveOrResting, isOf, made, noting}
-use Rattle.mappings.specs.States.{State, noMapping, fresh, blockPorts, furtherOf, portsOf}
+use Rattle.mappings.specs.Mappings.{Mapping, live, liveOrResting, made, noting}
+use Rattle.mappings.specs.States.{State, fresh, blockPorts, furtherOf, portsOf}
 use Rattle.mappings.specs.Steps.{Step, put, counted, ended, isFree, isTaken, isUsed, isUnheld, leftOf, leftAt, nextBlock, withBlock, holdersLeft, ticked, step}
 use Rattle.mappings.specs.Runs.{stateAfter}
-use Rattle.mappings.proofs.Options.{none-not-some, same-some, true-not-false, not-some, is-some}
+use Rattle.mappings.proofs.Options.{none-not-some, same-some, true-not-false, not-some}
 use Rattle.mappings.proofs.Firsts.{first-some, first-none, range-has, has-range}
-use Rattle.mappings.proofs.Ports.{Good, in-block, block-has, blocksFor, port-block, block-port}
-use Rattle.mappings.proofs.Shapes.{Shape, Face, Known, Faceless, refuses, stops, delivers, errs, again, makes, gives, ticks, shape}
-use Rattle.mappings.proofs.Sound.{Same, Sound, put-cases, put-same, put-other, of-parts, of-from, faceless}
+use Rattle.mappings.proofs.Ports.{Good, in-block, block-has, blocksFor, port-block}
+use Rattle.mappings.proofs.Shapes.{Shape, Face, Faceless, refuses, stops, delivers, errs, again, makes, gives, ticks, shape}
+use Rattle.mappings.proofs.Sound.{Same, Sound, put-cases, of-from, faceless}
 
 counted-sound : (c : Config) (s : State) → Sound c s → Sound c (counted (s .slots) s)
 counted-sound c s i = record { lists = i .lists; blocks = i .blocks; owned = i .owned; held = i .held; listed = i .listed; most = i .most; rests = i .rests; face = i .face }
@@ -105,6 +105,7 @@ next-known c g s n b e = go (ltb (length (furtherOf s n)) (c .further)) refl e
   where
     lowest : Option ℕ
     lowest = first (isUnheld (s .holders)) (range (c .subscribers) (blocksOf c - c .subscribers))
+
     go : (t : Bool) → ltb (length (furtherOf s n)) (c .further) ≡ t → cond t lowest None ≡ Some b → Next c s n b
     go false h k = none-not-some k
     go true h k =
@@ -112,8 +113,12 @@ next-known c g s n b e = go (ltb (length (furtherOf s n)) (c .further)) refl e
         let r : (c .subscribers ≤ b) × (b < c .subscribers + (blocksOf c - c .subscribers)) = has-range (c .subscribers) (blocksOf c - c .subscribers) b (f .0) in
         let fit : c .subscribers ≤ blocksOf c = g .fit in
         record {
-            fewer = ltb-true (length (furtherOf s n)) (c .further) h; found = k; from = r .0; below = omega arith;
-            unheld = not-some (getD (s .holders) b None) (not-true (isSome (getD (s .holders) b None)) (f .1)) }
+          fewer = ltb-true (length (furtherOf s n)) (c .further) h;
+          found = k;
+          from = r .0;
+          below = omega arith;
+          unheld = not-some (getD (s .holders) b None) (not-true (isSome (getD (s .holders) b None)) (f .1));
+        }
 
 -- the subscriber n is given the block b
 module _ (c : Config) (s : State) (i : Sound c s) (n b : ℕ) (one : n < c .subscribers) (new : Next c s n b) where
@@ -147,8 +152,8 @@ module _ (c : Config) (s : State) (i : Sound c s) (n b : ℕ) (one : n < c .subs
   held-after : (k x : ℕ) → List·Memᴰ x (furtherOf (withBlock n b s) k) → HeldAfter k x
   held-after k x j = ⊎-elim
       (λ (e : k ≡ n). subst (λ y. HeldAfter y x) (sym e)
-          (⊎-elim (λ (l : List·Memᴰ x (furtherOf s n)). still-held n x l) (λ (l : List·Memᴰ x (b ∷ [])). subst (λ y. HeldAfter n y) (sym (List·Memᴰ·eq-of-singleton l)) now-held)
-          (List·Memᴰ·append-cases (furtherOf s n) (subst (λ ys. List·Memᴰ x ys) given-list (subst (λ y. List·Memᴰ x (furtherOf (withBlock n b s) y)) e j)))))
+      (⊎-elim (λ (l : List·Memᴰ x (furtherOf s n)). still-held n x l) (λ (l : List·Memᴰ x (b ∷ [])). subst (λ y. HeldAfter n y) (sym (List·Memᴰ·eq-of-singleton l)) now-held)
+      (List·Memᴰ·append-cases (furtherOf s n) (subst (λ ys. List·Memᴰ x ys) given-list (subst (λ y. List·Memᴰ x (furtherOf (withBlock n b s) y)) e j)))))
       (λ (ne : k ≡ n → ⊥). still-held k x (subst (λ ys. List·Memᴰ x ys) (other-list k ne) j))
       (cases-eq k n)
 
@@ -160,8 +165,8 @@ module _ (c : Config) (s : State) (i : Sound c s) (n b : ℕ) (one : n < c .subs
   listed-after : (k x : ℕ) → getD (set (s .holders) b (Some n)) x None ≡ Some k → List·Memᴰ x (furtherOf (withBlock n b s) k)
   listed-after k x e = ⊎-elim
       (λ (h : x ≡ b).
-          let same : n ≡ k = same-some (sym (now-held .0) ∙ ap (λ y. getD (set (s .holders) b (Some n)) y None) (sym h) ∙ e) in
-          subst (λ y. List·Memᴰ x (furtherOf (withBlock n b s) y)) same (Memᴰ·cast h given-among))
+      let same : n ≡ k = same-some (sym (now-held .0) ∙ ap (λ y. getD (set (s .holders) b (Some n)) y None) (sym h) ∙ e) in
+      subst (λ y. List·Memᴰ x (furtherOf (withBlock n b s) y)) same (Memᴰ·cast h given-among))
       (λ (ne : x ≡ b → ⊥). more-blocks k x (i .listed k x (sym (getD-set-other (s .holders) b x (Some n) None ne) ∙ e)))
       (cases-eq x b)
 
@@ -173,8 +178,15 @@ module _ (c : Config) (s : State) (i : Sound c s) (n b : ℕ) (one : n < c .subs
 
   block-sound : Sound c (withBlock n b s)
   block-sound = record {
-      lists = length-set (s .further) n (furtherOf s n ++ b ∷ []) ∙ i .lists; blocks = length-set (s .holders) b (Some n) ∙ i .blocks;
-      owned = owned-after; held = held-after; listed = listed-after; most = most-after; rests = i .rests; face = i .face }
+    lists = length-set (s .further) n (furtherOf s n ++ b ∷ []) ∙ i .lists;
+    blocks = length-set (s .holders) b (Some n) ∙ i .blocks;
+    owned = owned-after;
+    held = held-after;
+    listed = listed-after;
+    most = most-after;
+    rests = i .rests;
+    face = i .face;
+  }
 
 -- the lowest port of a block lies in it
 pub lowest-in : (c : Config) → Good c → (b : ℕ) → (lowestPort ≤ portOf c b 0) × (blockOf c (portOf c b 0) ≡ b)
@@ -242,6 +254,14 @@ holder-left c slots a (Some n ∷ hs) zero = ap (λ b. cond (isUsed c slots b) (
 holder-left c slots a (None ∷ hs) (suc k) = holder-left c slots (suc a) hs k ∙ ap (λ b. cond (isUsed c slots b) (getD hs k None) None) (suc-add a k ∙ sym (add-suc a k))
 holder-left c slots a (Some n ∷ hs) (suc k) = holder-left c slots (suc a) hs k ∙ ap (λ b. cond (isUsed c slots b) (getD hs k None) None) (suc-add a k ∙ sym (add-suc a k))
 
+-- a block that has a holder after a tick is a used one, and had that holder before
+pub holder-stays : (c : Config) (slots : ℕ → Option Mapping) (hs : List (Option ℕ)) (n b : ℕ) → getD (holdersLeft c slots 0 hs) b None ≡ Some n → (isUsed c slots b ≡ true) × (getD hs b None ≡ Some n)
+holder-stays c slots hs n b e = go (isUsed c slots b) refl (sym (ap (λ y. cond (isUsed c slots y) (getD hs b None) None) (zero-add b)) ∙ sym (holder-left c slots 0 hs b) ∙ e)
+  where
+    go : (t : Bool) → isUsed c slots b ≡ t → cond t (getD hs b None) None ≡ Some n → (isUsed c slots b ≡ true) × (getD hs b None ≡ Some n)
+    go true h k = (h, k)
+    go false h k = none-not-some k
+
 pub holders-length : (c : Config) (slots : ℕ → Option Mapping) (a : ℕ) (hs : List (Option ℕ)) → length (holdersLeft c slots a hs) ≡ length hs
 unfolding holdersLeft
 holders-length c slots a [] = refl
@@ -267,11 +287,14 @@ module _ (c : Config) (g : Good c) (s : State) (i : Sound c s) where
   tick-owned : (p : ℕ) (m : Mapping) → slotsThen p ≡ Some m → (m .subscriber < c .subscribers) × (lowestPort ≤ p) × List·Memᴰ (blockOf c p) (blocksFor (ticked c s .state) (m .subscriber))
   tick-owned p m e =
       let own = i .owned p m (was p m e .0) in
-      let used : isUsed c slotsThen (blockOf c p) ≡ true = used-by c g slotsThen p m (own .1) e in
-      (own .0, own .1, ⊎-elim (λ (h : blockOf c p ≡ m .subscriber). List·Memᴰ·head h)
-          (λ (l : List·Memᴰ (blockOf c p) (furtherOf s (m .subscriber))). List·Memᴰ·tail
-              (subst (λ ys. List·Memᴰ (blockOf c p) ys) (sym (list-kept (isUsed c slotsThen) (s .further) (m .subscriber))) (kept-has (isUsed c slotsThen) (furtherOf s (m .subscriber)) (blockOf c p) l used)))
-          (List·Memᴰ·cases-cons (own .2)))
+      let used : isUsed c slotsThen (blockOf c p) ≡ true = used-by c g slotsThen p m (own .1) e in (
+        own .0,
+        own .1,
+        ⊎-elim (λ (h : blockOf c p ≡ m .subscriber). List·Memᴰ·head h)
+            (λ (l : List·Memᴰ (blockOf c p) (furtherOf s (m .subscriber))). List·Memᴰ·tail
+            (subst (λ ys. List·Memᴰ (blockOf c p) ys) (sym (list-kept (isUsed c slotsThen) (s .further) (m .subscriber))) (kept-has (isUsed c slotsThen) (furtherOf s (m .subscriber)) (blockOf c p) l used)))
+            (List·Memᴰ·cases-cons (own .2)),
+      )
 
   tick-held : (n b : ℕ) → List·Memᴰ b (furtherOf (ticked c s .state) n) → (getD (holdersLeft c slotsThen 0 (s .holders)) b None ≡ Some n) × (c .subscribers ≤ b)
   tick-held n b j =
@@ -280,16 +303,14 @@ module _ (c : Config) (g : Good c) (s : State) (i : Sound c s) where
       (holder-left c slotsThen 0 (s .holders) b ∙ ap (λ y. cond (isUsed c slotsThen y) (getD (s .holders) b None) None) (zero-add b) ∙ ap (λ y. cond y (getD (s .holders) b None) None) (k .1) ∙ h .0, h .1)
 
   tick-listed : (n b : ℕ) → getD (holdersLeft c slotsThen 0 (s .holders)) b None ≡ Some n → List·Memᴰ b (furtherOf (ticked c s .state) n)
-  tick-listed n b e = go (isUsed c slotsThen b) refl (sym (ap (λ y. cond (isUsed c slotsThen y) (getD (s .holders) b None) None) (zero-add b)) ∙ sym (holder-left c slotsThen 0 (s .holders) b) ∙ e)
-    where
-      go : (t : Bool) → isUsed c slotsThen b ≡ t → cond t (getD (s .holders) b None) None ≡ Some n → List·Memᴰ b (furtherOf (ticked c s .state) n)
-      go true h k = subst (λ ys. List·Memᴰ b ys) (sym (list-kept (isUsed c slotsThen) (s .further) n)) (kept-has (isUsed c slotsThen) (furtherOf s n) b (i .listed n b k) h)
-      go false h k = none-not-some k
+  tick-listed n b e =
+      let h = holder-stays c slotsThen (s .holders) n b e in
+      subst (λ ys. List·Memᴰ b ys) (sym (list-kept (isUsed c slotsThen) (s .further) n)) (kept-has (isUsed c slotsThen) (furtherOf s n) b (i .listed n b (h .1)) (h .0))
 
   tick-most : (n : ℕ) → length (furtherOf (ticked c s .state) n) ≤ c .further
   tick-most n =
       let fewer : length (furtherOf (ticked c s .state) n) ≤ length (furtherOf s n) =
-          subst (λ ys. length ys ≤ length (furtherOf s n)) (sym (list-kept (isUsed c slotsThen) (s .further) n)) (kept-fewer (isUsed c slotsThen) (furtherOf s n)) in
+      subst (λ ys. length ys ≤ length (furtherOf s n)) (sym (list-kept (isUsed c slotsThen) (s .further) n)) (kept-fewer (isUsed c slotsThen) (furtherOf s n)) in
       omega (arith, i .most n)
 
   lived : (m : Mapping) → live c (s .tick + 1) m ≡ true → live c (s .tick) m ≡ true
@@ -297,9 +318,15 @@ module _ (c : Config) (g : Good c) (s : State) (i : Sound c s) where
 
   tick-sound : Sound c (ticked c s .state)
   tick-sound = record {
-      lists = length-map (s .further) (kept-by (isUsed c slotsThen)) ∙ i .lists; blocks = holders-length c slotsThen 0 (s .holders) ∙ i .blocks;
-      owned = tick-owned; held = tick-held; listed = tick-listed; most = tick-most; rests = λ p m e. was p m e .1;
-      face = λ p q m n e f l k same. i .face p q m n (was p m e .0) (was q n f .0) (lived m l) (lived n k) same }
+    lists = length-map (s .further) (kept-by (isUsed c slotsThen)) ∙ i .lists;
+    blocks = holders-length c slotsThen 0 (s .holders) ∙ i .blocks;
+    owned = tick-owned;
+    held = tick-held;
+    listed = tick-listed;
+    most = tick-most;
+    rests = λ p m e. was p m e .1;
+    face = λ p q m n e f l k same. i .face p q m n (was p m e .0) (was q n f .0) (lived m l) (lived n k) same;
+  }
 
 pub step-sound : (c : Config) → Good c → (s : State) → Sound c s → {e : Event} {r : Step} → Shape c s e r → Sound c (r .state)
 step-sound c g s i (refuses r) = counted-sound c s i
@@ -323,10 +350,15 @@ none-there (suc n) (suc k) = none-there n k
 
 pub fresh-sound : (c : Config) → Sound c (fresh c)
 fresh-sound c = record {
-    lists = length-replicate (c .subscribers) []; blocks = length-replicate (blocksOf c) None;
-    owned = λ p m e. none-not-some e; held = λ n b j. go n b (subst (λ ys. List·Memᴰ b ys) (none-there (c .subscribers) n) j);
-    listed = λ n b e. none-not-some (sym (nobody-there (blocksOf c) b) ∙ e); most = λ n. subst (λ ys. length ys ≤ c .further) (sym (none-there (c .subscribers) n)) (omega arith);
-    rests = λ p m e. none-not-some e; face = λ p q m n e f l k same. none-not-some e }
+  lists = length-replicate (c .subscribers) [];
+  blocks = length-replicate (blocksOf c) None;
+  owned = λ p m e. none-not-some e;
+  held = λ n b j. go n b (subst (λ ys. List·Memᴰ b ys) (none-there (c .subscribers) n) j);
+  listed = λ n b e. none-not-some (sym (nobody-there (blocksOf c) b) ∙ e);
+  most = λ n. subst (λ ys. length ys ≤ c .further) (sym (none-there (c .subscribers) n)) (omega arith);
+  rests = λ p m e. none-not-some e;
+  face = λ p q m n e f l k same. none-not-some e;
+}
   where
     go : (n b : ℕ) → List·Memᴰ {A = ℕ} b [] → (getD (fresh c .holders) b None ≡ Some n) × (c .subscribers ≤ b)
     go n b j = elim j [ ]

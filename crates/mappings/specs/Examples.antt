@@ -2,22 +2,20 @@
 use mathlib.Core.Path.{_≡_}
 use mathlib.Core.Bool.{Bool, true, false}
 use mathlib.Core.List.{List, [], _∷_, _++_, map}
-use Prim.Native.Nat.{ℕ, _+_, _-_}
+use Prim.Native.Nat.{ℕ, _-_}
 use lib.ListN.{length, replicate, drop}
 use Rattle.std.specs.declared.option.Option.{Option}
 use Rattle.std.specs.declared.option.Option.the-variants.{Some, None}
 use Rattle.std.specs.shelf.Lists.{All}
 use Rattle.blocks.specs.Config.{Config}
-use Rattle.blocks.specs.declared.refusal.Refusal.{Refusal}
 use Rattle.blocks.specs.declared.refusal.Refusal.the-variants.{BadHeader, NoMapping, NotRemembered}
 use Rattle.mappings.specs.declared.event.Protocol.{Protocol}
-use Rattle.mappings.specs.declared.event.Protocol.the-variants.{Udp, Tcp, Echo}
+use Rattle.mappings.specs.declared.event.Protocol.the-variants.{Udp, Tcp}
 use Rattle.mappings.specs.declared.event.Event.{Event}
-use Rattle.mappings.specs.declared.event.Event.the-variants.{Unreadable, Goes, Comes, ErrorGoes, ErrorComes, Tick}
+use Rattle.mappings.specs.declared.event.Event.the-variants.{Unreadable, Goes, Comes, Tick}
 use Rattle.mappings.specs.declared.event.Verdict.{Verdict}
-use Rattle.mappings.specs.declared.event.Verdict.the-variants.{Sent, Delivered, Refused, Ticked}
-use Rattle.mappings.specs.declared.line.Change.{Change}
-use Rattle.mappings.specs.declared.line.Change.the-variants.{Given, TakenBack}
+use Rattle.mappings.specs.declared.event.Verdict.the-variants.{Sent, Delivered, Refused}
+use Rattle.mappings.specs.declared.line.Change.the-variants.{Given}
 use Rattle.mappings.specs.declared.line.Line.{Line}
 use Rattle.mappings.specs.Searches.{range}
 use Rattle.mappings.specs.States.{portsOf}
@@ -119,9 +117,9 @@ answersOnly = row (out 2 Udp 5000 7 ∷ into 1056 8 ∷ into 1056 7 ∷ []) (Las
 abbrev pub betweenSubscribers : List Row
 betweenSubscribers =
     row (out 2 Udp 5000 (settings .external) ∷ out 1 Udp 6000 (settings .external) ∷ into 1056 (settings .external) ∷ []) (Last 2)
-        (Verdicts (Sent 1040 ∷ Delivered 2 5000 ∷ []))
+    (Verdicts (Sent 1040 ∷ Delivered 2 5000 ∷ []))
     ∷ row (out 2 Udp 5000 7 ∷ out 1 Udp 6000 (settings .external) ∷ into 1056 (settings .external) ∷ []) (Last 2)
-        (Verdicts (Sent 1040 ∷ Refused NotRemembered ∷ [])) ∷ []
+    (Verdicts (Sent 1040 ∷ Refused NotRemembered ∷ [])) ∷ []
 
 -- the further block 8 is subscriber 2's, and is taken back and given to subscriber 7 in one tick's events 900 and 901
 abbrev pub handedOn : List Event

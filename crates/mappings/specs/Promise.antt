@@ -20,14 +20,13 @@ use Rattle.mappings.specs.declared.event.Event.{Event}
 use Rattle.mappings.specs.declared.event.Event.the-variants.{Unreadable, Goes, Comes, ErrorGoes, ErrorComes, Tick}
 use Rattle.mappings.specs.declared.event.Verdict.{Verdict}
 use Rattle.mappings.specs.declared.event.Verdict.the-variants.{Sent, Delivered, Refused, Ticked}
-use Rattle.mappings.specs.declared.line.Change.{Change}
 use Rattle.mappings.specs.declared.line.Change.the-variants.{Given, TakenBack}
 use Rattle.mappings.specs.declared.line.Line.{Line}
 use Rattle.mappings.specs.Mappings.{Mapping, live, liveOrResting, isOf, isIn}
 use Rattle.mappings.specs.States.{State, furtherOf, portsOf}
 use Rattle.mappings.specs.Steps.{step, counted, ended, isOfProtocol, lineOf, lastTick, lastMoment}
-use Rattle.mappings.specs.Runs.{Occurrence, run, runFrom, stateAfter}
-use Rattle.mappings.specs.Books.{who, whoIn}
+use Rattle.mappings.specs.Runs.{Occurrence, run}
+use Rattle.mappings.specs.Books.{holderBy, who, whoIn}
 
 -- the words that the promises use
 
@@ -72,6 +71,19 @@ abbrev pub OneOwner : Type 0
 OneOwner =
     (c : Config) → withinLimits c ≡ true → (es : List Event) (p : ℕ) (m : Mapping) → after c es .slots p ≡ Some m →
     (holderNow c (after c es) p ≡ Some (m .subscriber)) × (liveOrResting c (after c es .tick) m ≡ true)
+
+-- A subscriber's further blocks are those that it holds, and never more than it may have.
+abbrev pub Agreed : Type 0
+Agreed =
+    (c : Config) → withinLimits c ≡ true → (es : List Event) (n : ℕ) →
+    ((b : ℕ) → List·Memᴰ b (furtherOf (after c es) n) → (getD (after c es .holders) b None ≡ Some n) × (c .subscribers ≤ b))
+    × ((b : ℕ) → getD (after c es .holders) b None ≡ Some n → List·Memᴰ b (furtherOf (after c es) n)) × (length (furtherOf (after c es) n) ≤ c .further)
+
+-- A further block is held only while a port of it is in use or resting.
+abbrev pub HeldInUse : Type 0
+HeldInUse =
+    (c : Config) → withinLimits c ≡ true → (es : List Event) (n b : ℕ) → getD (after c es .holders) b None ≡ Some n →
+    (p : ℕ) × (m : Mapping) × (lowestPort ≤ p) × (blockOf c p ≡ b) × (after c es .slots p ≡ Some m)
 
 -- A subscriber's live port has at most one face,
 abbrev pub OneFace : Type 0
@@ -174,6 +186,17 @@ TwoLines =
     (c : Config) → withinLimits c ≡ true → (es : List Event) →
     length (run c es .book) + length (kept-by isSome (after c es .holders)) ≡ length (kept-by isGiving (run c es .book)) + length (kept-by isGiving (run c es .book))
 
+-- the tick in which a block was given to whoever has it after these lines; t: before them
+unfoldable pub givenAfter : ℕ → Option ℕ → List Line → Option ℕ
+givenAfter b t [] = t
+givenAfter b t (l ∷ ls) = givenAfter b (cond (eqb (l .block) b) (holderBy (l .change) (l .tick)) t) ls
+
+-- A block is taken back only once a life and a rest have passed since it was given.
+abbrev pub TakenRested : Type 0
+TakenRested =
+    (c : Config) → withinLimits c ≡ true → (es : List Event) (e : Event) (l : Line) → List·Memᴰ l (step c e (after c es) .lines) → l .change ≡ TakenBack →
+    (t : ℕ) × (givenAfter (l .block) None (run c es .book) ≡ Some t) × (t + c .life + c .rest < l .tick)
+
 -- every port that a subscriber may use is in use or resting
 abbrev pub AllTaken : Config → State → ℕ → Type 0
 AllTaken c s n = (p : ℕ) → List·Memᴰ p (portsOf c s n) → (m : Mapping) × (s .slots p ≡ Some m) × (liveOrResting c (s .tick) m ≡ true)
@@ -193,7 +216,7 @@ Served =
 abbrev pub GivenInNeed : Type 0
 GivenInNeed =
     (c : Config) → withinLimits c ≡ true → (es : List Event) (e : Event) (l : Line) → List·Memᴰ l (step c e (after c es) .lines) → l .change ≡ Given →
-    (senderOf e ≡ Some (l .subscriber)) × AllTaken c (after c es) (l .subscriber) × (length (furtherOf (after c es) (l .subscriber)) < c .further)
+    (senderOf e ≡ Some (l .subscriber)) × (l .subscriber < c .subscribers) × AllTaken c (after c es) (l .subscriber) × (length (furtherOf (after c es) (l .subscriber)) < c .further)
     × (isFurther c (l .block) ≡ true) × (getD (after c es .holders) (l .block) None ≡ None)
     × ((b : ℕ) → isFurther c b ≡ true → b < l .block → isSome (getD (after c es .holders) b None) ≡ true)
 
@@ -230,7 +253,7 @@ Over =
     (c : Config) (es later : List Event) (e : Event) → after c es .over ≡ true →
     (after c (es ++ later) ≡ after c es) × (run c (es ++ later) .book ≡ run c es .book) × (refusalNumber (step c e (after c es) .verdict) ≡ 12)
 
--- a packet or tick is refused with 12 only at a last number, and then the run is over; neither number is ever passed.
+-- a packet that was read, or a tick, is refused with 12 just where a last number is reached, and then the run is over; neither number is ever passed.
 abbrev pub atLimit : State → Event → Bool
 atLimit s (Unreadable r) = leb lastMoment (s .moment)
 atLimit s (Goes o) = leb lastMoment (s .moment)
@@ -245,6 +268,7 @@ Limits =
     (after c es .moment ≤ lastMoment) × (after c es .tick ≤ lastTick)
     × (step c e (after c es) .state .over ≡ (after c es .over || atLimit (after c es) e))
     × (step c e (after c es) .state .over ≡ true → refusalNumber (step c e (after c es) .verdict) ≡ 12)
+    × (((r : Refusal) → e ≡ Unreadable r → ⊥) → refusalNumber (step c e (after c es) .verdict) ≡ 12 → step c e (after c es) .state .over ≡ true)
 
 -- what concerns a subscriber: its own packets, what comes to its first block, and ticks
 abbrev pub toFirstBlock : Config → ℕ → ℕ → Bool
@@ -293,6 +317,8 @@ Alone =
 -- All of it together.
 pub record Main : Type 0 where
   pub one-owner : OneOwner
+  pub agreed : Agreed
+  pub held-in-use : HeldInUse
   pub one-face : OneFace
   pub face-used : FaceUsed
   pub face-stays : FaceStays
@@ -305,6 +331,7 @@ pub record Main : Type 0 where
   pub errors-answered : ErrorsAnswered
   pub short-book : ShortBook
   pub two-lines : TwoLines
+  pub taken-rested : TakenRested
   pub served : Served
   pub given-in-need : GivenInNeed
   pub let-in : LetIn

@@ -1,5 +1,6 @@
 use Rattle.mappings.proofs.Lines.{short-book, two-lines}
+use Rattle.mappings.proofs.Rested.{taken-rested}
 use Rattle.mappings.proofs.promise.book_is_short.Needs as need
 
 pub returns : need.returns
-returns c = record { lines = short-book; two = two-lines }
+returns c = record { lines = short-book; two = two-lines; rested = taken-rested }

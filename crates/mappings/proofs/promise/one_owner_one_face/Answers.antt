@@ -1,5 +1,6 @@
-use Rattle.mappings.proofs.Faces.{one-owner, one-face, face-used, face-stays}
+use Rattle.mappings.proofs.Faces.{one-owner, agreed, one-face, face-used, face-stays}
+use Rattle.mappings.proofs.InUse.{held-in-use}
 use Rattle.mappings.proofs.promise.one_owner_one_face.Needs as need
 
 pub returns : need.returns
-returns c = record { owner = one-owner; face = one-face; used = face-used; stays = face-stays }
+returns c = record { owner = one-owner; agreed = agreed; busy = held-in-use; face = one-face; used = face-used; stays = face-stays }
