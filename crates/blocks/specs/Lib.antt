@@ -3,4 +3,3 @@ pub mod Bytes
 pub mod Config
 pub mod Settings
 pub mod Ports
-pub mod Examples

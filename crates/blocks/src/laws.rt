@@ -1,5 +1,4 @@
 // The laws of settings and blocks: each function's contract is a theorem about the definitions.
-ghost use Rattle.blocks.specs.Examples.{ExamplesHold};
 ghost use Rattle.blocks.specs.Ports.{FirstOrFurther, OneSubscriber, PortsArePlaces};
 ghost use Rattle.blocks.specs.Settings.{SettingsReadBack};
 
@@ -24,11 +23,5 @@ pub fn one_subscriber()
 // First blocks and further blocks are apart, and together all.
 pub fn first_or_further()
     ensures { λ _. ⌜ FirstOrFurther ⌝ }
-{
-}
-
-// The worked examples are as the definitions have them.
-pub fn examples_hold()
-    ensures { λ _. ⌜ ExamplesHold ⌝ }
 {
 }
