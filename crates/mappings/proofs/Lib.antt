@@ -16,6 +16,7 @@ pub mod Givings
 pub mod Rested
 pub mod TracingByTick
 pub mod Answers
+pub mod Memory
 pub mod Service
 pub mod Quiet
 pub mod Alone
