@@ -1,16 +1,16 @@
 -- What a mapping remembers: different addresses, at most sixteen, the latest first.
 use mathlib.Core.Path.{_≡_, refl, sym, _∙_, ap, subst}
-use mathlib.Core.Bool.{Bool, true, false, cond, _&&_, _||_, not}
+use mathlib.Core.Bool.{Bool, true, false, cond, not}
 use mathlib.Core.List.{List, [], _∷_}
 use mathlib.Core.Logic.{_⊎_, inl, inr, ⊎-elim}
-use Prim.Native.Nat.{ℕ, zero, suc, _+_, _≤_, _<_, min}
+use Prim.Native.Nat.{ℕ, zero, suc, _+_, _≤_}
 use native.Mathlib.Omega.{arith}
 use lib.Dec.{eqb}
 use lib.ListN.{length, take}
 use Rattle.std.specs.declared.option.Option.{Option}
-use Rattle.std.specs.declared.option.Option.the-variants.{Some, None}
+use Rattle.std.specs.declared.option.Option.the-variants.{Some}
 use Rattle.std.proofs.shelf.Lists.{length-take, take-take}
-use Rattle.std.proofs.shelf.Tests.{and-parts, and-from, or-cases, or-left, or-right, or-from, or-parts, eq-eqb, eqb-true, eqb-false, cases-eq, not-true, not-from-false}
+use Rattle.std.proofs.shelf.Tests.{and-parts, and-from, or-cases, or-left, or-right, or-from, eq-eqb, eqb-true, cases-eq, not-true, not-from-false}
 use Rattle.blocks.specs.Config.{Config}
 use Rattle.blocks.specs.Ports.{portOf}
 use Rattle.mappings.specs.declared.event.Outward.{Outward}
@@ -24,7 +24,7 @@ use Rattle.mappings.specs.Runs.{stateAfter}
 use Rattle.mappings.specs.Promise.{after, distinct, Noted, Remembered, MovesBack}
 use Rattle.mappings.proofs.Options.{none-not-some, same-some, true-not-false}
 use Rattle.mappings.proofs.Shapes.{Shape, refuses, stops, delivers, errs, again, makes, gives, ticks, shape}
-use Rattle.mappings.proofs.Sound.{put-same, put-cases, of-parts, of-from}
+use Rattle.mappings.proofs.Sound.{put-same, put-cases, of-from}
 use Rattle.mappings.proofs.Soundness.{left-known}
 use Rattle.mappings.proofs.Answers.{in-take, in-without}
 use Rattle.mappings.proofs.Tracing.{clash}
@@ -61,6 +61,7 @@ distinct-without a (x ∷ xs) d = go (eqb x a) (distinct-without a xs (parts .1)
   where
     parts : (not (isIn x xs) ≡ true) × (distinct xs ≡ true)
     parts = and-parts (not (isIn x xs)) (distinct xs) d
+
     go : (t : Bool) → distinct (without a xs) ≡ true → distinct (cond t xs (x ∷ without a xs)) ≡ true
     go true later = parts .1
     go false later = and-from (not (isIn x (without a xs))) (distinct (without a xs)) (not-from-false (isIn x (without a xs)) (out-without x a xs (not-true (isIn x xs) (parts .0)))) later
