@@ -29,7 +29,7 @@ use Rattle.mappings.proofs.Soundness.{left-known}
 use Rattle.mappings.proofs.Continued.{transcript-on}
 use Rattle.mappings.proofs.Tracing.{Happened, happened, clash}
 
-in-without : (a b : ℕ) (xs : List ℕ) → isIn a (without b xs) ≡ true → isIn a xs ≡ true
+pub in-without : (a b : ℕ) (xs : List ℕ) → isIn a (without b xs) ≡ true → isIn a xs ≡ true
 unfolding isIn without
 in-without a b [] e = e
 in-without a b (x ∷ xs) e = go (in-without a b xs) (eqb x b) e
@@ -38,7 +38,7 @@ in-without a b (x ∷ xs) e = go (in-without a b xs) (eqb x b) e
     go later true k = or-right (eqb x a) (isIn a xs) k
     go later false k = ⊎-elim (λ (h : eqb x a ≡ true). or-left (eqb x a) (isIn a xs) h) (λ (h : isIn a (without b xs) ≡ true). or-right (eqb x a) (isIn a xs) (later h)) (or-cases (eqb x a) (isIn a (without b xs)) k)
 
-in-take : (a n : ℕ) (xs : List ℕ) → isIn a (take n xs) ≡ true → isIn a xs ≡ true
+pub in-take : (a n : ℕ) (xs : List ℕ) → isIn a (take n xs) ≡ true → isIn a xs ≡ true
 unfolding isIn
 in-take a zero xs e = true-not-false (sym e)
 in-take a (suc n) [] e = e

@@ -16,6 +16,8 @@ pub mod Givings
 pub mod Rested
 pub mod TracingByTick
 pub mod Answers
+pub mod Memory
+pub mod Tables
 pub mod Service
 pub mod Quiet
 pub mod Alone

@@ -1,11 +1,11 @@
 -- What is promised of every run of a gateway whose settings are within their limits. Each promise is a type, and its proof is a term of it.
 use mathlib.Core.Path.{_≡_}
-use mathlib.Core.Bool.{Bool, true, false, cond, _&&_, _||_}
+use mathlib.Core.Bool.{Bool, true, false, cond, _&&_, _||_, not}
 use mathlib.Core.List.{List, [], _∷_, _++_, List·Memᴰ}
 use mathlib.Core.Logic.{_⊎_}
 use Prim.Native.Nat.{ℕ, suc, _+_, _<_, _≤_}
 use lib.Dec.{eqb, leb, ltb}
-use lib.ListN.{length, getD}
+use lib.ListN.{length, getD, take}
 use Rattle.std.specs.declared.option.Option.{Option}
 use Rattle.std.specs.declared.option.Option.the-variants.{Some, None}
 use Rattle.std.specs.Changed.{kept-by}
@@ -22,7 +22,7 @@ use Rattle.mappings.specs.declared.event.Verdict.{Verdict}
 use Rattle.mappings.specs.declared.event.Verdict.the-variants.{Sent, Delivered, Refused, Ticked}
 use Rattle.mappings.specs.declared.line.Change.the-variants.{Given, TakenBack}
 use Rattle.mappings.specs.declared.line.Line.{Line}
-use Rattle.mappings.specs.Mappings.{Mapping, live, liveOrResting, isOf, isIn}
+use Rattle.mappings.specs.Mappings.{Mapping, live, liveOrResting, isOf, isIn, noted}
 use Rattle.mappings.specs.States.{State, furtherOf, portsOf}
 use Rattle.mappings.specs.Steps.{step, counted, ended, isOfProtocol, lineOf, lastTick, lastMoment}
 use Rattle.mappings.specs.Runs.{Occurrence, run}
@@ -227,6 +227,25 @@ LetIn =
     after c es .slots (i .port) ≡ Some m → live c (after c es .tick) m ≡ true → isOfProtocol i m ≡ true → isIn (i .from) (m .remembered) ≡ true →
     (step c (Comes i) (after c es) .verdict ≡ Delivered (m .subscriber) (m .port)) × (step c (ErrorComes i) (after c es) .verdict ≡ Delivered (m .subscriber) (m .port))
 
+-- What goes out is noted: its mapping's last packet is now, and the address comes first among those that it remembers.
+abbrev pub Noted : Type 0
+Noted =
+    (c : Config) → (es : List Event) (o : Outward) (p : ℕ) → step c (Goes o) (after c es) .verdict ≡ Sent p →
+    (m : Mapping) × (step c (Goes o) (after c es) .state .slots p ≡ Some m) × (isOf o m ≡ true) × (m .last ≡ after c es .tick)
+    × (rest : List ℕ) × (m .remembered ≡ o .to ∷ rest)
+
+unfoldable pub distinct : List ℕ → Bool
+distinct [] = true
+distinct (x ∷ xs) = not (isIn x xs) && distinct xs
+
+-- The addresses that a mapping remembers are different ones, and at most sixteen;
+abbrev pub Remembered : Type 0
+Remembered = (c : Config) (es : List Event) (p : ℕ) (m : Mapping) → after c es .slots p ≡ Some m → (distinct (m .remembered) ≡ true) × (length (m .remembered) ≤ 16)
+
+-- one of them moves back by at most a place with each packet, and so is remembered until sixteen others were sent to.
+abbrev pub MovesBack : Type 0
+MovesBack = (a b : ℕ) (xs : List ℕ) (k : ℕ) → k < 16 → isIn b (take k xs) ≡ true → isIn b (take (suc k) (noted a xs)) ≡ true
+
 -- nothing but the count of events is changed, or nothing but that the run is over, and the book gets no line
 abbrev pub Unchanged : Config → Event → State → Type 0
 Unchanged c e s = ((step c e s .state ≡ counted (s .slots) s) ⊎ (step c e s .state ≡ ended s)) × (step c e s .lines ≡ [])
@@ -335,6 +354,9 @@ pub record Main : Type 0 where
   pub served : Served
   pub given-in-need : GivenInNeed
   pub let-in : LetIn
+  pub noted-now : Noted
+  pub remembered : Remembered
+  pub moves-back : MovesBack
   pub refusals : Refusals
   pub inwards-quiet : InwardsQuiet
   pub over : Over

@@ -1,6 +1,6 @@
 // The promises, each as the contract of a function: a crate in which one of them does not hold is not built.
 ghost use Rattle.mappings.specs.Examples.{Worked};
-ghost use Rattle.mappings.specs.Promise.{Agreed, Alone, Answered, ErrorsAnswered, FaceStays, FaceUsed, GivenInNeed, Held, HeldByTick, HeldInUse, InwardsQuiet, Lasting, LetIn, Limits, Main, OneFace, OneOwner, Over, Refusals, Served, ShortBook, TakenRested, Traced, TracedByTick, TwoLines};
+ghost use Rattle.mappings.specs.Promise.{Agreed, Alone, Answered, ErrorsAnswered, FaceStays, FaceUsed, GivenInNeed, Held, HeldByTick, HeldInUse, InwardsQuiet, Lasting, LetIn, Limits, Main, MovesBack, Noted, OneFace, OneOwner, Over, Refusals, Remembered, Served, ShortBook, TakenRested, Traced, TracedByTick, TwoLines};
 
 // A port in use or resting is one subscriber's, which holds its block; a live port has one face, goes out by it, and keeps it.
 pub fn one_owner_one_face()
@@ -34,11 +34,14 @@ pub fn book_is_short()
     ensures rested { λ _. ⌜ TakenRested ⌝ }
 {}
 
-// A packet goes out unless no port is left, a further block is given only in need, and an answer is let in.
+// A packet goes out unless no port is left, a further block is given only in need, and an answer is let in: what a port sent to is remembered.
 pub fn subscribers_are_served()
     ensures out { λ _. ⌜ Served ⌝ }
     ensures need { λ _. ⌜ GivenInNeed ⌝ }
     ensures answers { λ _. ⌜ LetIn ⌝ }
+    ensures noted { λ _. ⌜ Noted ⌝ }
+    ensures remembered { λ _. ⌜ Remembered ⌝ }
+    ensures lasting { λ _. ⌜ MovesBack ⌝ }
 {}
 
 // A refusal, and whatever comes in, changes nothing but the count of events; the end of a run lasts.

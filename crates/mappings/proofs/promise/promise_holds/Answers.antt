@@ -8,6 +8,7 @@ use Rattle.mappings.proofs.Quiet.{refusals, inwards-quiet, over, limits}
 use Rattle.mappings.proofs.Alone.{alone}
 use Rattle.mappings.proofs.InUse.{held-in-use}
 use Rattle.mappings.proofs.Rested.{taken-rested}
+use Rattle.mappings.proofs.Memory.{noted-now, remembered, moves-back}
 use Rattle.mappings.proofs.promise.promise_holds.Needs as need
 
 pub returns : need.returns
@@ -31,6 +32,9 @@ returns c = record {
   served = served;
   given-in-need = given-in-need;
   let-in = let-in;
+  noted-now = noted-now;
+  remembered = remembered;
+  moves-back = moves-back;
   refusals = refusals;
   inwards-quiet = inwards-quiet;
   over = over;
