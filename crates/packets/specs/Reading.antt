@@ -78,10 +78,6 @@ abbrev pub sourceOf : Reading → ℕ
 sourceOf (Packet f) = f .source .address
 sourceOf (Error h) = h .source
 
-abbrev pub destinationOf : Reading → ℕ
-destinationOf (Packet f) = f .destination .address
-destinationOf (Error h) = h .destination
-
 abbrev pub ttlOf : Reading → ℕ
 ttlOf (Packet f) = f .ttl
 ttlOf (Error h) = h .ttl

@@ -5,7 +5,7 @@ use crate::facts::End;
 use crate::facts::Protocol;
 
 // Where an end's address stands in the header.
-pub fn address_at(end: End) -> usize
+pub(crate) fn address_at(end: End) -> usize
     ensures { λ r. ⌜ r ≡ addressAt end ⌝ }
 {
     match end {
@@ -15,7 +15,7 @@ pub fn address_at(end: End) -> usize
 }
 
 // Where an end's port stands in the body.
-pub fn port_at(protocol: Protocol, end: End) -> usize
+pub(crate) fn port_at(protocol: Protocol, end: End) -> usize
     ensures { λ r. ⌜ r ≡ portAt protocol end ⌝ }
 {
     match (protocol, end) {
@@ -26,7 +26,7 @@ pub fn port_at(protocol: Protocol, end: End) -> usize
 }
 
 // Where the body's own sum stands.
-pub fn sum_at(protocol: Protocol) -> usize
+pub(crate) fn sum_at(protocol: Protocol) -> usize
     ensures { λ r. ⌜ r ≡ sumAt protocol ⌝ }
 {
     match protocol {
