@@ -112,7 +112,8 @@ through bs x e =
       fits = and-parts (plainHeader h b) (bodyFits y b) (second .0) .1;
       header = and-parts (right (wordSum h)) (bodyRight y h b) (third .0) .0;
       body = and-parts (right (wordSum h)) (bodyRight y h b) (third .0) .1;
-      name = third .1 }
+      name = third .1;
+    }
 
 pub was-read : (bs : List ℕ) (f : Facts) → readOf bs ≡ Ok (Packet f) → Read bs f
 was-read bs f e =
@@ -128,8 +129,10 @@ was-read bs f e =
         fits = subst (λ v. bodyFits v b ≡ true) (name .payload) (t .fits);
         header = t .header;
         body = subst (λ v. bodyRight v h b ≡ true) (name .payload) (t .body);
-        own = name .own };
-      facts = name .facts }
+        own = name .own;
+      };
+      facts = name .facts;
+    }
 
 -- and one that passes every test is read
 pub is-read : (bs : List ℕ) (p : Protocol) → 20 ≤ length bs → Readable p (headerOf bs) (bodyOf bs) → readOf bs ≡ Ok (Packet (factsOf p (headerOf bs) (bodyOf bs)))
@@ -194,4 +197,5 @@ was-error bs d e =
       header = t .header;
       body = subst (λ v. bodyRight v h b ≡ true) (name .payload) (t .body);
       kind = name .kind;
-      heading = name .heading }
+      heading = name .heading;
+    }

@@ -48,7 +48,7 @@ abbrev pub factsOf : Protocol → List ℕ → List ℕ → Facts
 factsOf p h b = record { protocol = p; source = endpointOf p Source h b; destination = endpointOf p Destination h b; ttl = timeToLive h }
 
 abbrev pub headingOf : List ℕ → Heading
-headingOf h = record { source = longAt h 12; destination = longAt h 16; ttl = timeToLive h }
+headingOf h = record { source = longAt h (addressAt Source); destination = longAt h (addressAt Destination); ttl = timeToLive h }
 
 -- a request or a reply
 abbrev pub isEcho : List ℕ → Bool

@@ -56,6 +56,7 @@ one-is-right s c d hc hd rc rd =
     let oc : ones (s + c) ≡ 65535 = eqb-true (ones (s + c)) 65535 rc in
     let od : ones (s + d) ≡ 65535 = eqb-true (ones (s + d)) 65535 rd in
     elim (cases-order c d) [
-      inl same ↦ inl same
-    | inr (inl less) ↦ inr (inl (omega (arith, ones-cases (s + c), ones-cases (s + d))))
-    | inr (inr more) ↦ inr (inr (omega (arith, ones-cases (s + c), ones-cases (s + d)))) ]
+      | inl same ↦ inl same
+      | inr (inl less) ↦ inr (inl (omega (arith, ones-cases (s + c), ones-cases (s + d))))
+      | inr (inr more) ↦ inr (inr (omega (arith, ones-cases (s + c), ones-cases (s + d))))
+    ]
