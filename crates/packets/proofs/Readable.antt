@@ -18,6 +18,7 @@ use Rattle.packets.specs.declared.facts.Payload.the-variants.{Datagram, Segmen
 use Rattle.mappings.specs.declared.event.Protocol.{Protocol}
 use Rattle.mappings.specs.declared.event.Protocol.the-variants.{Udp, Tcp, Echo}
 use Rattle.packets.specs.declared.facts.Facts.{Facts}
+use Rattle.packets.specs.declared.facts.Heading.{Heading}
 use Rattle.packets.specs.declared.facts.Reading.{Reading}
 use Rattle.packets.specs.declared.facts.Reading.the-variants.{Packet, Error}
 use Rattle.packets.specs.Fields.{headerOf, bodyOf, payloadOf, protocolNumber}
@@ -42,10 +43,14 @@ pub record Readable (p : Protocol) (h b : List ℕ) : Type 0 where
   pub body : bodyRight (payloadFor p) h b ≡ true
   pub own : isOwn p b ≡ true
 
+-- nothing follows from what cannot be
+never : {A : Type 0} → _≡_ {A = ℕ} 0 1 → A
+never e = absurd (omega arith)
+
 -- what is accepted has passed the test
 passed : {A : Type 0} (t : Bool) (x : Result A Refusal) (d : Refusal) (y : A) → cond t x (Err d) ≡ Ok y → (t ≡ true) × (x ≡ Ok y)
 passed true x d y e = (refl, e)
-passed false x d y e = absurd (let z : _≡_ {A = ℕ} 0 1 = cc in omega arith)
+passed false x d y e = never (cc)
 
 -- two facts that were accepted are the same
 same-facts : (f g : Facts) → _≡_ {A = Result Reading Refusal} (Ok (Packet f)) (Ok (Packet g)) → f ≡ g
@@ -73,9 +78,9 @@ named h b f Message e = echo (isEcho b) refl e
     echo false own e = error (isError b) e
       where
         error : (t : Bool) → cond t (Ok (Error (headingOf h))) (Err UnknownProtocol) ≡ Ok (Packet f) → Named Message h b f
-        error true e = absurd (let z : _≡_ {A = ℕ} 0 1 = cc in omega arith)
-        error false e = absurd (let z : _≡_ {A = ℕ} 0 1 = cc in omega arith)
-named h b f Other e = absurd (let z : _≡_ {A = ℕ} 0 1 = cc in omega arith)
+        error true e = never (cc)
+        error false e = never (cc)
+named h b f Other e = never (cc)
 
 -- READ. A packet that was read has passed every test, and its facts are those of its bytes.
 pub record Read (bs : List ℕ) (f : Facts) : Type 0 where
@@ -83,24 +88,47 @@ pub record Read (bs : List ℕ) (f : Facts) : Type 0 where
   pub tests : Readable (f .protocol) (headerOf bs) (bodyOf bs)
   pub facts : f ≡ factsOf (f .protocol) (headerOf bs) (bodyOf bs)
 
-pub was-read : (bs : List ℕ) (f : Facts) → readOf bs ≡ Ok (Packet f) → Read bs f
+-- what was read, whatever it is, has passed the tests of what it carries, and was then named
+record Through (bs : List ℕ) (x : Reading) : Type 0 where
+  long : 20 ≤ length bs
+  plain : plainHeader (headerOf bs) (bodyOf bs) ≡ true
+  fits : bodyFits (payloadOf (protocolNumber (headerOf bs))) (bodyOf bs) ≡ true
+  header : right (wordSum (headerOf bs)) ≡ true
+  body : bodyRight (payloadOf (protocolNumber (headerOf bs))) (headerOf bs) (bodyOf bs) ≡ true
+  name : namedOf (payloadOf (protocolNumber (headerOf bs))) (headerOf bs) (bodyOf bs) ≡ Ok x
+
+through : (bs : List ℕ) (x : Reading) → readOf bs ≡ Ok x → Through bs x
 unfolding readOf readAs
-was-read bs f e =
+through bs x e =
     let h : List ℕ = headerOf bs in
     let b : List ℕ = bodyOf bs in
     let y : Payload = payloadOf (protocolNumber h) in
-    let first = passed (leb 20 (length bs)) (readAs y h b) BadHeader (Packet f) e in
-    let second = passed (plainHeader h b && bodyFits y b) _ BadHeader (Packet f) (first .1) in
-    let third = passed (right (wordSum h) && bodyRight y h b) (namedOf y h b) WrongSum (Packet f) (second .1) in
-    let name : Named y h b f = named h b f y (third .1) in
+    let first = passed (leb 20 (length bs)) (readAs y h b) BadHeader x e in
+    let second = passed (plainHeader h b && bodyFits y b) _ BadHeader x (first .1) in
+    let third = passed (right (wordSum h) && bodyRight y h b) (namedOf y h b) WrongSum x (second .1) in
     record {
       long = leb-true 20 (length bs) (first .0);
+      plain = and-parts (plainHeader h b) (bodyFits y b) (second .0) .0;
+      fits = and-parts (plainHeader h b) (bodyFits y b) (second .0) .1;
+      header = and-parts (right (wordSum h)) (bodyRight y h b) (third .0) .0;
+      body = and-parts (right (wordSum h)) (bodyRight y h b) (third .0) .1;
+      name = third .1;
+    }
+
+pub was-read : (bs : List ℕ) (f : Facts) → readOf bs ≡ Ok (Packet f) → Read bs f
+was-read bs f e =
+    let h : List ℕ = headerOf bs in
+    let b : List ℕ = bodyOf bs in
+    let t : Through bs (Packet f) = through bs (Packet f) e in
+    let name : Named (payloadOf (protocolNumber h)) h b f = named h b f (payloadOf (protocolNumber h)) (t .name) in
+    record {
+      long = t .long;
       tests = record {
         payload = name .payload;
-        plain = and-parts (plainHeader h b) (bodyFits y b) (second .0) .0;
-        fits = subst (λ v. bodyFits v b ≡ true) (name .payload) (and-parts (plainHeader h b) (bodyFits y b) (second .0) .1);
-        header = and-parts (right (wordSum h)) (bodyRight y h b) (third .0) .0;
-        body = subst (λ v. bodyRight v h b ≡ true) (name .payload) (and-parts (right (wordSum h)) (bodyRight y h b) (third .0) .1);
+        plain = t .plain;
+        fits = subst (λ v. bodyFits v b ≡ true) (name .payload) (t .fits);
+        header = t .header;
+        body = subst (λ v. bodyRight v h b ≡ true) (name .payload) (t .body);
         own = name .own;
       };
       facts = name .facts;
@@ -122,3 +150,52 @@ is-read bs p long t =
     name Udp own = refl
     name Tcp own = refl
     name Echo own = cond-true (isEcho (bodyOf bs)) _ _ own
+
+-- READ AS AN ERROR. It has passed every test of an ICMP message, and is of one of the four kinds.
+pub record ReadError (bs : List ℕ) (d : Heading) : Type 0 where
+  pub long : 20 ≤ length bs
+  pub payload : payloadOf (protocolNumber (headerOf bs)) ≡ Message
+  pub plain : plainHeader (headerOf bs) (bodyOf bs) ≡ true
+  pub fits : bodyFits Message (bodyOf bs) ≡ true
+  pub header : right (wordSum (headerOf bs)) ≡ true
+  pub body : right (wordSum (bodyOf bs)) ≡ true
+  pub kind : isError (bodyOf bs) ≡ true
+  pub heading : d ≡ headingOf (headerOf bs)
+
+-- what is named an error is a message of one of the four kinds
+record NamedError (y : Payload) (h b : List ℕ) (d : Heading) : Type 0 where
+  payload : y ≡ Message
+  kind : isError b ≡ true
+  heading : d ≡ headingOf h
+
+named-error : (h b : List ℕ) (d : Heading) (y : Payload) → namedOf y h b ≡ Ok (Error d) → NamedError y h b d
+named-error h b d Datagram e = never (cc)
+named-error h b d Segment e = never (cc)
+named-error h b d Message e = echo (isEcho b) e
+  where
+    echo : (t : Bool) → cond t (Ok (Packet (factsOf Echo h b))) (cond (isError b) (Ok (Error (headingOf h))) (Err UnknownProtocol)) ≡ Ok (Error d) →
+        NamedError Message h b d
+    echo true e = never (cc)
+    echo false e = error (isError b) refl e
+      where
+        error : (t : Bool) → isError b ≡ t → cond t (Ok (Error (headingOf h))) (Err UnknownProtocol) ≡ Ok (Error d) → NamedError Message h b d
+        error true kind e = record { payload = refl; kind = kind; heading = cc }
+        error false kind e = never (cc)
+named-error h b d Other e = never (cc)
+
+pub was-error : (bs : List ℕ) (d : Heading) → readOf bs ≡ Ok (Error d) → ReadError bs d
+was-error bs d e =
+    let h : List ℕ = headerOf bs in
+    let b : List ℕ = bodyOf bs in
+    let t : Through bs (Error d) = through bs (Error d) e in
+    let name : NamedError (payloadOf (protocolNumber h)) h b d = named-error h b d (payloadOf (protocolNumber h)) (t .name) in
+    record {
+      long = t .long;
+      payload = name .payload;
+      plain = t .plain;
+      fits = subst (λ v. bodyFits v b ≡ true) (name .payload) (t .fits);
+      header = t .header;
+      body = subst (λ v. bodyRight v h b ≡ true) (name .payload) (t .body);
+      kind = name .kind;
+      heading = name .heading;
+    }

@@ -29,11 +29,17 @@ totalLength h = wordAt h 2
 abbrev pub fragmentBits : List ℕ → ℕ
 fragmentBits h = wordAt h 6 % 16384
 
+abbrev pub ttlAt : ℕ
+ttlAt = 8
+
 abbrev pub timeToLive : List ℕ → ℕ
-timeToLive h = byteAt h 8
+timeToLive h = byteAt h ttlAt
 
 abbrev pub protocolNumber : List ℕ → ℕ
 protocolNumber h = byteAt h 9
+
+abbrev pub headerSumAt : ℕ
+headerSumAt = 10
 
 abbrev pub addressAt : End → ℕ
 addressAt Source = 12

@@ -15,7 +15,7 @@ use Rattle.packets.specs.declared.facts.End.the-variants.{Source, Destination}
 use Rattle.packets.specs.declared.facts.Endpoint.{Endpoint}
 use Rattle.packets.specs.declared.facts.Facts.{Facts}
 use Rattle.packets.specs.declared.facts.Reading.the-variants.{Packet}
-use Rattle.packets.specs.Fields.{headerOf, bodyOf, addressAt, portAt, sumAt}
+use Rattle.packets.specs.Fields.{headerOf, bodyOf, headerSumAt, ttlAt, addressAt, portAt, sumAt}
 use Rattle.packets.specs.Reading.{readOf}
 use Rattle.packets.specs.Writing.{besides, hasNoSum, sent, spelled}
 
@@ -39,7 +39,7 @@ ReadAgain = (bs : List ℕ) (f : Facts) (e : End) (n : Endpoint) → readOf bs �
 
 -- 2. Every sum of what leaves is what working it out afresh gives, and a UDP sum of 0 stays 0.
 pub record FreshSums (p : Protocol) (bs out : List ℕ) : Type 0 where
-  pub header : wordAt (headerOf out) 10 ≡ fresh (restSum 0 (headerOf out) 10)
+  pub header : wordAt (headerOf out) headerSumAt ≡ fresh (restSum 0 (headerOf out) headerSumAt)
   pub body : hasNoSum p (bodyOf bs) ≡ false →
       wordAt (bodyOf out) (sumAt p) ≡ spelled p (fresh (restSum (besides p (headerOf out) (length (bodyOf out))) (bodyOf out) (sumAt p)))
   pub none : hasNoSum p (bodyOf bs) ≡ true → wordAt (bodyOf out) (sumAt p) ≡ 0
@@ -52,7 +52,7 @@ abbrev pub within : ℕ → ℕ → ℕ → Bool
 within i n j = leb i j && ltb j (i + n)
 
 abbrev pub isTouched : Protocol → End → ℕ → Bool
-isTouched p e j = eqb j 8 || within 10 2 j || within (addressAt e) 4 j || within (20 + portAt p e) 2 j || within (20 + sumAt p) 2 j
+isTouched p e j = eqb j ttlAt || within headerSumAt 2 j || within (addressAt e) 4 j || within (20 + portAt p e) 2 j || within (20 + sumAt p) 2 j
 
 pub record Untouched (p : Protocol) (e : End) (bs out : List ℕ) : Type 0 where
   pub long : length out ≡ length bs

@@ -48,7 +48,7 @@ abbrev pub factsOf : Protocol → List ℕ → List ℕ → Facts
 factsOf p h b = record { protocol = p; source = endpointOf p Source h b; destination = endpointOf p Destination h b; ttl = timeToLive h }
 
 abbrev pub headingOf : List ℕ → Heading
-headingOf h = record { source = longAt h 12; destination = longAt h 16; ttl = timeToLive h }
+headingOf h = record { source = longAt h (addressAt Source); destination = longAt h (addressAt Destination); ttl = timeToLive h }
 
 -- a request or a reply
 abbrev pub isEcho : List ℕ → Bool
@@ -77,10 +77,6 @@ readOf bs = cond (leb 20 (length bs)) (readAs (payloadOf (protocolNumber (header
 abbrev pub sourceOf : Reading → ℕ
 sourceOf (Packet f) = f .source .address
 sourceOf (Error h) = h .source
-
-abbrev pub destinationOf : Reading → ℕ
-destinationOf (Packet f) = f .destination .address
-destinationOf (Error h) = h .destination
 
 abbrev pub ttlOf : Reading → ℕ
 ttlOf (Packet f) = f .ttl

@@ -11,14 +11,14 @@ use Rattle.mappings.specs.declared.event.Protocol.{Protocol}
 use Rattle.mappings.specs.declared.event.Protocol.the-variants.{Udp, Tcp, Echo}
 use Rattle.packets.specs.declared.facts.End.{End}
 use Rattle.packets.specs.declared.facts.Endpoint.{Endpoint}
-use Rattle.packets.specs.Fields.{headerOf, bodyOf, timeToLive, addressAt, portAt, sumAt, pseudoSum}
+use Rattle.packets.specs.Fields.{headerOf, bodyOf, headerSumAt, timeToLive, ttlAt, addressAt, portAt, sumAt, pseudoSum}
 
 -- the header, but for its sum
 abbrev pub readdressed : End → ℕ → List ℕ → List ℕ
-readdressed e address h = putLong (set h 8 (timeToLive h - 1)) (addressAt e) address
+readdressed e address h = putLong (set h ttlAt (timeToLive h - 1)) (addressAt e) address
 
 abbrev pub sentHeader : End → ℕ → List ℕ → List ℕ
-sentHeader e address h = let g = readdressed e address h in putWord g 10 (fresh (restSum 0 g 10))
+sentHeader e address h = let g = readdressed e address h in putWord g headerSumAt (fresh (restSum 0 g headerSumAt))
 
 -- what counts besides the body: a pseudo-header, but not for an echo
 abbrev pub besides : Protocol → List ℕ → ℕ → ℕ

@@ -1,5 +1,5 @@
 // The last tests of a packet that was read: whose it is, and whether it may go on.
-ghost use Rattle.packets.specs.Reading.{admittedOf, destinationOf, sourceOf, ttlOf};
+ghost use Rattle.packets.specs.Reading.{admittedOf, sourceOf, ttlOf};
 ghost use mathlib.Core.Path.{_≡_};
 use crate::facts::Reading;
 use blocks::refusal::Refusal;
@@ -15,18 +15,8 @@ impl Reading {
         }
     }
 
-    // The address that it goes to.
-    pub fn destination(self) -> u32
-        ensures { λ r. ⌜ r ≡ destinationOf self ⌝ }
-    {
-        match self {
-            Reading::Packet(facts) => facts.destination.address,
-            Reading::Error(heading) => heading.destination,
-        }
-    }
-
     // Its time to live.
-    pub fn ttl(self) -> u8
+    fn ttl(self) -> u8
         ensures { λ r. ⌜ r ≡ ttlOf self ⌝ }
     {
         match self {

@@ -2,6 +2,6 @@
 pub mod admission;
 pub mod facts;
 pub mod laws;
-pub mod places;
+mod places;
 pub mod reader;
 pub mod writer;

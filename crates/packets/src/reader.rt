@@ -13,6 +13,19 @@ use crate::facts::Heading;
 use crate::facts::Payload;
 use mappings::event::Protocol;
 use crate::facts::Reading;
+use crate::places::DESTINATION;
+use crate::places::FRAGMENT;
+use crate::places::HEADER;
+use crate::places::ICMP_CODE;
+use crate::places::ICMP_KIND;
+use crate::places::PROTOCOL;
+use crate::places::SOURCE;
+use crate::places::TCP_OFFSET;
+use crate::places::TOTAL_LENGTH;
+use crate::places::TTL;
+use crate::places::UDP_LENGTH;
+use crate::places::UDP_SUM;
+use crate::places::VERSION_AND_LENGTH;
 use crate::places::address_at;
 use crate::places::port_at;
 use blocks::refusal::Refusal;
@@ -25,12 +38,12 @@ use sums::words::word_at;
 pub fn read(packet: &[u8]) -> Result<Reading, Refusal>
     ensures { λ r. ⌜ r ≡ readOf (now (packet .entry)) ⌝ }
 {
-    if packet.len() < 20 {
+    if packet.len() < HEADER {
         return Err(Refusal::BadHeader);
     }
-    let header = &packet[0..20];
-    let body = &packet[20..];
-    read_as(payload_of(header[9]), header, body)
+    let header = &packet[0..HEADER];
+    let body = &packet[HEADER..];
+    read_as(payload_of(header[PROTOCOL]), header, body)
 }
 
 fn read_as(payload: Payload, header: &[u8], body: &[u8]) -> Result<Reading, Refusal>
@@ -62,9 +75,9 @@ fn is_plain(header: &[u8], body: &[u8]) -> bool
     ensures is { λ r. ⌜ r ≡ plainHeader (now (header .entry)) (now (body .entry)) ⌝ }
     ensures short { λ r. ⌜ (r ≡ true → length (now (body .entry)) < 65516) ⌝ }
 {
-    header[0] == 0x45
-        && usize::from(word_at(header, 2)) == 20 + body.len()
-        && word_at(header, 6) % 0x4000 == 0
+    header[VERSION_AND_LENGTH] == 0x45
+        && usize::from(word_at(header, TOTAL_LENGTH)) == HEADER + body.len()
+        && word_at(header, FRAGMENT) % 0x4000 == 0
 }
 
 fn body_fits(payload: Payload, body: &[u8]) -> bool
@@ -72,8 +85,9 @@ fn body_fits(payload: Payload, body: &[u8]) -> bool
     ensures long { λ r. ⌜ (r ≡ true → leastBody payload ≤ length (now (body .entry))) ⌝ }
 {
     match payload {
-        Payload::Datagram => body.len() >= 8 && usize::from(word_at(body, 4)) == body.len(),
-        Payload::Segment => body.len() >= 20 && is_offset_within(body[12] / 16, body.len()),
+        Payload::Datagram => body.len() >= 8
+            && usize::from(word_at(body, UDP_LENGTH)) == body.len(),
+        Payload::Segment => body.len() >= 20 && is_offset_within(body[TCP_OFFSET] / 16, body.len()),
         Payload::Message => body.len() >= 8,
         Payload::Other => true,
     }
@@ -92,9 +106,10 @@ pub(crate) fn pseudo_sum(header: &[u8], count: u16) -> u32
     ensures is { λ r. ⌜ r ≡ pseudoSum (now (header .entry)) count ⌝ }
     ensures small { λ r. ⌜ r < 2 ^ 20 ⌝ }
 {
-    let source = u32::from(word_at(header, 12)) + u32::from(word_at(header, 14));
-    let destination = u32::from(word_at(header, 16)) + u32::from(word_at(header, 18));
-    source + destination + u32::from(header[9]) + u32::from(count)
+    let source = u32::from(word_at(header, SOURCE)) + u32::from(word_at(header, SOURCE + 2));
+    let destination = u32::from(word_at(header, DESTINATION))
+        + u32::from(word_at(header, DESTINATION + 2));
+    source + destination + u32::from(header[PROTOCOL]) + u32::from(count)
 }
 
 fn is_body_right(payload: Payload, header: &[u8], body: &[u8]) -> bool
@@ -102,7 +117,7 @@ fn is_body_right(payload: Payload, header: &[u8], body: &[u8]) -> bool
     ensures { λ r. ⌜ r ≡ bodyRight payload (now (header .entry)) (now (body .entry)) ⌝ }
 {
     match payload {
-        Payload::Datagram => word_at(body, 6) == 0
+        Payload::Datagram => word_at(body, UDP_SUM) == 0
             || is_right(pseudo_sum(header, body.len() as u16) + word_sum(body)),
         Payload::Segment => is_right(pseudo_sum(header, body.len() as u16) + word_sum(body)),
         Payload::Message => is_right(word_sum(body)),
@@ -128,7 +143,7 @@ fn facts(protocol: Protocol, header: &[u8], body: &[u8]) -> Facts
         protocol,
         source: endpoint(protocol, End::Source, header, body),
         destination: endpoint(protocol, End::Destination, header, body),
-        ttl: header[8],
+        ttl: header[TTL],
     }
 }
 
@@ -137,9 +152,9 @@ fn heading(header: &[u8]) -> Heading
     ensures { λ r. ⌜ r ≡ headingOf (now (header .entry)) ⌝ }
 {
     Heading {
-        source: long_at(header, 12),
-        destination: long_at(header, 16),
-        ttl: header[8],
+        source: long_at(header, SOURCE),
+        destination: long_at(header, DESTINATION),
+        ttl: header[TTL],
     }
 }
 
@@ -159,7 +174,7 @@ fn named_message(header: &[u8], body: &[u8]) -> Result<Reading, Refusal>
     requires { ⌜ length (now header) ≡ 20 ⌝ ∗ ⌜ 8 ≤ length (now body) ⌝ }
     ensures { λ r. ⌜ r ≡ messageOf (now (header .entry)) (now (body .entry)) ⌝ }
 {
-    match (body[0], body[1]) {
+    match (body[ICMP_KIND], body[ICMP_CODE]) {
         (8 | 0, 0) => Ok(Reading::Packet(facts(Protocol::Echo, header, body))),
         (3 | 4 | 11 | 12, _) => Ok(Reading::Error(heading(header))),
         _ => Err(Refusal::UnknownProtocol),

@@ -15,11 +15,15 @@ ghost use mathlib.Core.Path.{_≡_};
 use crate::facts::End;
 use crate::facts::Endpoint;
 use crate::facts::Facts;
-use mappings::event::Protocol;
+use crate::places::HEADER;
+use crate::places::HEADER_SUM;
+use crate::places::TOTAL_LENGTH;
+use crate::places::TTL;
 use crate::places::address_at;
 use crate::places::port_at;
 use crate::places::sum_at;
 use crate::reader::pseudo_sum;
+use mappings::event::Protocol;
 use sums::move_sum;
 use sums::word_sum;
 use sums::words::put_long;
@@ -47,12 +51,12 @@ fn write(packet: &mut [u8], facts: Facts, end: End, endpoint: Endpoint)
     requires { ⌜ readOf (now packet) ≡ Ok (Packet facts) ⌝ }
     ensures { λ _. ⌜ now (packet .exit) ≡ sent (facts .protocol) end endpoint (now (packet .entry)) ⌝ }
 {
-    let count = word_at(packet, 2) - 20;
-    let before = sum_besides(facts.protocol, &packet[0..20], count);
-    write_header(&mut packet[0..20], end, endpoint.address);
-    let after = sum_besides(facts.protocol, &packet[0..20], count);
+    let count = word_at(packet, TOTAL_LENGTH) - HEADER as u16;
+    let before = sum_besides(facts.protocol, &packet[0..HEADER], count);
+    write_header(&mut packet[0..HEADER], end, endpoint.address);
+    let after = sum_besides(facts.protocol, &packet[0..HEADER], count);
     write_body(
-        &mut packet[20..],
+        &mut packet[HEADER..],
         facts.protocol,
         end,
         before,
@@ -80,13 +84,17 @@ fn write_header(header: &mut [u8], end: End, address: u32)
     ensures { λ _. ⌜ now (header .exit) ≡ sentHeader end address (now (header .entry)) ⌝ }
 {
     let at = address_at(end);
-    let ttl = header[8].saturating_sub(1);
-    let gone = u32::from(header[8]) * 256
+    let ttl = header[TTL].saturating_sub(1);
+    let gone = u32::from(header[TTL]) * 256
         + (u32::from(word_at(header, at)) + u32::from(word_at(header, at + 2)));
     let new = u32::from(ttl) * 256 + (address / 65536 + address % 65536);
-    header[8] = ttl;
+    header[TTL] = ttl;
     put_long(header, at, address);
-    put_word(header, 10, move_sum(word_at(header, 10), gone, new));
+    put_word(
+        header,
+        HEADER_SUM,
+        move_sum(word_at(header, HEADER_SUM), gone, new),
+    );
 }
 
 fn write_body(body: &mut [u8], protocol: Protocol, end: End, before: u32, after: u32, port: u16)

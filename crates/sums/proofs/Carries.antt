@@ -5,7 +5,8 @@ use mathlib.Core.Bool.{true}
 use Prim.Native.Nat.{ℕ, zero, suc, _+_, _-_, _%_, _<_}
 use native.Mathlib.Omega.{arith}
 use lib.Dec.{eqb}
-use Rattle.std.proofs.shelf.Tests.{cond-both, eqb-true, eq-eqb}
+use Rattle.std.proofs.shelf.Tests.{cases-order, cond-both, eqb-true, eq-eqb}
+use Rattle.sums.specs.Laws.{OneIsRight}
 use Rattle.sums.specs.Sums.{ones, fresh, right, moved, nonzero}
 
 -- what `ones` is, in one line for 0 and in one for the others
@@ -48,3 +49,14 @@ nonzero-right s c r =
     cond-both (eqb c 0) 65535 c (λ n. right (s + n) ≡ true)
     (λ z. eq-eqb (ones (s + 65535)) 65535 (omega (arith, eqb-true c 0 z, eqb-true (ones (s + c)) 65535 r, ones-cases (s + c), ones-cases (s + 65535))))
     (λ _. r)
+
+-- two right sums for the same words are one, or the two spellings of 0
+pub one-is-right : OneIsRight
+one-is-right s c d hc hd rc rd =
+    let oc : ones (s + c) ≡ 65535 = eqb-true (ones (s + c)) 65535 rc in
+    let od : ones (s + d) ≡ 65535 = eqb-true (ones (s + d)) 65535 rd in
+    elim (cases-order c d) [
+      | inl same ↦ inl same
+      | inr (inl less) ↦ inr (inl (omega (arith, ones-cases (s + c), ones-cases (s + d))))
+      | inr (inr more) ↦ inr (inr (omega (arith, ones-cases (s + c), ones-cases (s + d))))
+    ]

@@ -1,8 +1,9 @@
 -- What is promised of sums. Each is a type; a proof of the type is the theorem.
 use mathlib.Core.Path.{_≡_}
 use mathlib.Core.Bool.{true}
+use mathlib.Core.Logic.{_⊎_}
 use mathlib.Core.List.{List, [], _∷_}
-use Prim.Native.Nat.{ℕ, _+_, _*_, _%_, _<_}
+use Prim.Native.Nat.{ℕ, _+_, _*_, _%_, _≤_, _<_}
 use lib.ListN.{length}
 use Rattle.sums.specs.Words.{wordAt, putWord, wordSum}
 use Rattle.sums.specs.Sums.{fresh, right, moved, restSum}
@@ -64,3 +65,9 @@ MovedIsOff = (before after c g n : ℕ) → after + g ≡ before + n → (after 
 -- 6. A fresh sum is right.
 abbrev pub FreshIsRight : Type 0
 FreshIsRight = (s : ℕ) → right (s + fresh s) ≡ true
+
+-- 7. At most one sum is right for the other words, but for the two spellings of 0.
+abbrev pub OneIsRight : Type 0
+OneIsRight =
+    (s c d : ℕ) → c ≤ 65535 → d ≤ 65535 → right (s + c) ≡ true → right (s + d) ≡ true →
+    (c ≡ d) ⊎ (((c ≡ 0) × (d ≡ 65535)) ⊎ ((c ≡ 65535) × (d ≡ 0)))

@@ -13,9 +13,9 @@ use Rattle.packets.specs.Fields.{headerOf, bodyOf, payloadOf, protocolNumber}
 use Rattle.packets.specs.Reading.{readAs, readOf}
 use Rattle.packets.proofs.reader.read.Needs as need
 
-pub returns-then-packet-lt20 : need.returns-then-packet-lt20
+pub returns-then-packet-lt-HEADER : need.returns-then-packet-lt-HEADER
 unfolding readOf
-returns-then-packet-lt20 c = grind (arith, tells)
+returns-then-packet-lt-HEADER c = grind (arith, tells)
 
 pub returns : need.returns
 unfolding readOf

@@ -24,8 +24,8 @@ total : (bs : List ℕ) (f : Facts) → Read bs f → wordAt bs 2 ≡ 20 + lengt
 total bs f r =
     omega (arith, getD-take 20 bs 2 0 (omega arith), getD-take 20 bs 3 0 (omega arith), plain-length (headerOf bs) (bodyOf bs) (r .tests .plain))
 
-pub word-at-count-requires : need.word-at-count-requires
-word-at-count-requires c κs = omega (arith, was-read (c .args .packet .now) (c .args .facts) (c .pre) .long)
+pub word-at-requires : need.word-at-requires
+word-at-requires c κs = omega (arith, was-read (c .args .packet .now) (c .args .facts) (c .pre) .long)
 
 pub sub-count : need.sub-count
 sub-count c = omega (arith, total (c .args .packet .now) (c .args .facts) (was-read (c .args .packet .now) (c .args .facts) (c .pre)))
@@ -60,16 +60,16 @@ write-body-requires c κs =
     let h : List ℕ = c .write-header .last .header in
     let l : length h ≡ 20 = as-long bs f (c .args .end) (c .args .endpoint .address) r h (c .write-header .ensures) in
     let body = rest-out h b l in
-    let count : c .word-at-count .result - 20 ≡ length b = omega (arith, total bs f r) in
+    let count : c .word-at .result - 20 ≡ length b = omega (arith, total bs f r) in
     let before : c .sum-besides-before .result ≡ besides p (headerOf bs) (length b) =
     c .sum-besides-before .ensures .is ∙ ap (λ n. besides p (headerOf bs) n) count in
     let after : c .sum-besides-after .result ≡ besides p h (length b) =
-    besides-there bs f (c .args .end) (c .args .endpoint .address) r h (c .write-header .ensures) (c .word-at-count .result - 20)
+    besides-there bs f (c .args .end) (c .args .endpoint .address) r h (c .write-header .ensures) (c .word-at .result - 20)
     (c .sum-besides-after .result) count (c .sum-besides-after .ensures .is) in
     let least : leastOf p ≤ length b = fits-least p b (r .tests .fits) in
     record {
       long = subst (λ xs. leastOf p ≤ length xs) (sym body) least;
-      short = subst (λ xs. length xs ≤ 65535) (sym body) (omega (arith, count, c .word-at-count .ok));
+      short = subst (λ xs. length xs ≤ 65535) (sym body) (omega (arith, count, c .word-at .ok));
       small = (c .sum-besides-before .ensures .small, c .sum-besides-after .ensures .small);
       besides = subst (λ n. Besides p n) (sym after) (besides-fits p h (length b) least);
       sum = subst (λ xs. hasNoSum p xs ≡ false → right (c .sum-besides-before .result + wordSum xs) ≡ true) (sym body)
@@ -86,9 +86,9 @@ returns c =
     let r : Read bs f = was-read bs f (c .pre) in
     let h : List ℕ = c .write-header .last .header in
     let l : length h ≡ 20 = as-long bs f (c .args .end) (c .args .endpoint .address) r h (c .write-header .ensures) in
-    let count : c .word-at-count .result - 20 ≡ length b = omega (arith, total bs f r) in
+    let count : c .word-at .result - 20 ≡ length b = omega (arith, total bs f r) in
     let after : c .sum-besides-after .result ≡ besides p h (length b) =
-    besides-there bs f (c .args .end) (c .args .endpoint .address) r h (c .write-header .ensures) (c .word-at-count .result - 20)
+    besides-there bs f (c .args .end) (c .args .endpoint .address) r h (c .write-header .ensures) (c .word-at .result - 20)
     (c .sum-besides-after .result) count (c .sum-besides-after .ensures .is) in
     let written : c .write-body .last .body ≡ sentBody p (c .args .end) (besides p h (length b)) (c .args .endpoint .port) b =
     c .write-body .ensures
