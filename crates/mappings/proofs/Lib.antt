@@ -1,3 +1,4 @@
+-- The lemmas, lowest first.
 mod Worked
 pub mod Options
 pub mod Firsts
@@ -13,6 +14,7 @@ pub mod Replay
 pub mod Moments
 pub mod Tracing
 pub mod Givings
+pub mod Order
 pub mod Rested
 pub mod TracingByTick
 pub mod Answers

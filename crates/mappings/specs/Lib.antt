@@ -1,3 +1,4 @@
+-- The definitions, in the order in which a reader meets the words.
 pub mod Searches
 pub mod Mappings
 pub mod States

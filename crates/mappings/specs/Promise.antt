@@ -139,7 +139,7 @@ HeldByTick =
     (c : Config) → withinLimits c ≡ true → (es : List Event) (n p t : ℕ) → t ≤ after c es .tick → List·Memᴰ n (whoIn c (run c es .book) p t) →
     (before : List Event) × (later : List Event) × (es ≡ before ++ later) × (holderNow c (after c before) p ≡ Some n) × UpTo c before later t
 
--- an earlier packet of the subscriber n, by the external port p to the address a
+-- y is an earlier packet, with the words o, that went out by the external port p
 pub record SentBefore (x : Occurrence) (p : ℕ) (o : Outward) (y : Occurrence) : Type 0 where
   pub earlier : y .moment < x .moment
   pub went : y .event ≡ Goes o
@@ -185,6 +185,14 @@ abbrev pub TwoLines : Type 0
 TwoLines =
     (c : Config) → withinLimits c ≡ true → (es : List Event) →
     length (run c es .book) + length (kept-by isSome (after c es .holders)) ≡ length (kept-by isGiving (run c es .book)) + length (kept-by isGiving (run c es .book))
+
+-- Each line's moment is larger than those of all lines before its event, and its tick is not smaller; a tick rises by at most one with each event,
+-- at a taking back by that event itself, at a giving by none.
+abbrev pub InOrder : Type 0
+InOrder =
+    (c : Config) → withinLimits c ≡ true → (es : List Event) (e : Event) (k l : Line) → List·Memᴰ k (run c es .book) → List·Memᴰ l (step c e (after c es) .lines) →
+    (k .moment < l .moment) × (k .tick ≤ l .tick) × (l .tick + k .moment ≤ k .tick + l .moment)
+    × (l .change ≡ Given → l .tick + suc (k .moment) ≤ k .tick + l .moment) × (l .change ≡ TakenBack → k .tick < l .tick)
 
 -- the tick in which a block was given to whoever has it after these lines; t: before them
 unfoldable pub givenAfter : ℕ → Option ℕ → List Line → Option ℕ
@@ -350,6 +358,7 @@ pub record Main : Type 0 where
   pub errors-answered : ErrorsAnswered
   pub short-book : ShortBook
   pub two-lines : TwoLines
+  pub in-order : InOrder
   pub taken-rested : TakenRested
   pub served : Served
   pub given-in-need : GivenInNeed

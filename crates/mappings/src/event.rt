@@ -12,7 +12,7 @@ pub enum Protocol {
 }
 
 // A subscriber's packet on its way out. Of an error message these are the words of the packet that it quotes:
-// the quoted destination is the subscriber's own port, and the quoted source is where the error goes to.
+// the quoted destination is the subscriber's own port, and the quoted source is the address in `to`.
 #[derive(Clone, Copy, Debug, PartialEq, Eq)]
 pub struct Outward {
     pub subscriber: u16,
@@ -23,7 +23,7 @@ pub struct Outward {
 }
 
 // A packet to our external address. Of an error message these are the words of the packet that it quotes:
-// the quoted source is our external port, and the quoted destination is where the error counts as coming from.
+// the quoted source is our external port, and the quoted destination, from which the error counts as coming, is the address in `from`.
 #[derive(Clone, Copy, Debug, PartialEq, Eq)]
 pub struct Inward {
     pub protocol: Protocol,

@@ -1,6 +1,6 @@
 // The promises, each as the contract of a function: a crate in which one of them does not hold is not built.
 ghost use Rattle.mappings.specs.Examples.{Worked};
-ghost use Rattle.mappings.specs.Promise.{Agreed, Alone, Answered, ErrorsAnswered, FaceStays, FaceUsed, GivenInNeed, Held, HeldByTick, HeldInUse, InwardsQuiet, Lasting, LetIn, Limits, Main, MovesBack, Noted, OneFace, OneOwner, Over, Refusals, Remembered, Served, ShortBook, TakenRested, Traced, TracedByTick, TwoLines};
+ghost use Rattle.mappings.specs.Promise.{Agreed, Alone, Answered, ErrorsAnswered, FaceStays, FaceUsed, GivenInNeed, Held, HeldByTick, HeldInUse, InOrder, InwardsQuiet, Lasting, LetIn, Limits, Main, MovesBack, Noted, OneFace, OneOwner, Over, Refusals, Remembered, Served, ShortBook, TakenRested, Traced, TracedByTick, TwoLines};
 
 // A port in use or resting is one subscriber's, which holds its block; a live port has one face, goes out by it, and keeps it.
 pub fn one_owner_one_face()
@@ -31,6 +31,7 @@ pub fn arrivals_are_answers()
 pub fn book_is_short()
     ensures lines { λ _. ⌜ ShortBook ⌝ }
     ensures two { λ _. ⌜ TwoLines ⌝ }
+    ensures order { λ _. ⌜ InOrder ⌝ }
     ensures rested { λ _. ⌜ TakenRested ⌝ }
 {}
 

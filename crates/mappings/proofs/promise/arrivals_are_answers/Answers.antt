@@ -1,3 +1,4 @@
+-- `promise::arrivals_are_answers` meets its contract.
 use Rattle.mappings.proofs.Answers.{answered, errors-answered}
 use Rattle.mappings.proofs.promise.arrivals_are_answers.Needs as need
 

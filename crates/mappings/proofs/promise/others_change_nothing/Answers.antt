@@ -1,3 +1,4 @@
+-- `promise::others_change_nothing` meets its contract.
 use Rattle.mappings.proofs.Alone.{alone}
 use Rattle.mappings.proofs.promise.others_change_nothing.Needs as need
 

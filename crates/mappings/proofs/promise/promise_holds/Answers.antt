@@ -1,3 +1,4 @@
+-- `promise::promise_holds` meets its contract.
 use Rattle.mappings.proofs.Faces.{one-owner, agreed, one-face, face-used, face-stays}
 use Rattle.mappings.proofs.Tracing.{traced, held, lasting}
 use Rattle.mappings.proofs.TracingByTick.{traced-by-tick, held-by-tick}
@@ -7,6 +8,7 @@ use Rattle.mappings.proofs.Service.{served, given-in-need, let-in}
 use Rattle.mappings.proofs.Quiet.{refusals, inwards-quiet, over, limits}
 use Rattle.mappings.proofs.Alone.{alone}
 use Rattle.mappings.proofs.InUse.{held-in-use}
+use Rattle.mappings.proofs.Order.{in-order}
 use Rattle.mappings.proofs.Rested.{taken-rested}
 use Rattle.mappings.proofs.Memory.{noted-now, remembered, moves-back}
 use Rattle.mappings.proofs.promise.promise_holds.Needs as need
@@ -28,6 +30,7 @@ returns c = record {
   errors-answered = errors-answered;
   short-book = short-book;
   two-lines = two-lines;
+  in-order = in-order;
   taken-rested = taken-rested;
   served = served;
   given-in-need = given-in-need;

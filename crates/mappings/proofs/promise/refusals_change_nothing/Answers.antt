@@ -1,3 +1,4 @@
+-- `promise::refusals_change_nothing` meets its contract.
 use Rattle.mappings.proofs.Quiet.{refusals, inwards-quiet, over, limits}
 use Rattle.mappings.proofs.promise.refusals_change_nothing.Needs as need
 

@@ -1,3 +1,4 @@
+-- `promise::senders_are_named` meets its contract.
 use Rattle.mappings.proofs.Tracing.{traced, held, lasting}
 use Rattle.mappings.proofs.TracingByTick.{traced-by-tick, held-by-tick}
 use Rattle.mappings.proofs.promise.senders_are_named.Needs as need

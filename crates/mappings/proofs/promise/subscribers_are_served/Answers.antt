@@ -1,3 +1,4 @@
+-- `promise::subscribers_are_served` meets its contract.
 use Rattle.mappings.proofs.Service.{served, given-in-need, let-in}
 use Rattle.mappings.proofs.Memory.{noted-now, remembered, moves-back}
 use Rattle.mappings.proofs.promise.subscribers_are_served.Needs as need
