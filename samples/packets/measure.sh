@@ -5,11 +5,11 @@ here=$(pwd)
 work=$(mktemp -d)
 trap 'rm -rf "$work"' EXIT
 mkdir -p "$work/crates/measured/src"
-for crate in blocks sums packets; do
+for crate in blocks mappings sums packets; do
     cp -r "crates/$crate" "$work/crates/"
     rm -rf "$work/crates/$crate/must-fail"
 done
-printf 'blocks:\nsums:\npackets: blocks sums\nmeasured: blocks sums packets\n' > "$work/crates.txt"
+printf 'blocks:\nmappings: blocks\nsums:\npackets: blocks mappings sums\nmeasured: blocks mappings sums packets\n' > "$work/crates.txt"
 cat > "$work/crates/measured/src/lib.rt" <<'END'
 // For measuring: a packet read and written outwards.
 use packets::facts::Endpoint;
