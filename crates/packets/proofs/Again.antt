@@ -117,73 +117,73 @@ same-parts : (p : Protocol) {a a′ q q′ d d′ w w′ t t′ : ℕ} → a ≡
 same-parts p a q d w t = cc
 
 -- the facts of the packet that leaves
-module _ (n : Endpoint) (h b : List ℕ) (extra : ℕ) (l : length h ≡ 20) where
+module _ (hops : ℕ) (n : Endpoint) (h b : List ℕ) (extra : ℕ) (l : length h ≡ 20) where
   facts-sent : (p : Protocol) (e : End) → leastOf p ≤ length b →
-      factsOf p (sentHeader e (n .address) h) (sentBody p e extra (n .port) b) ≡ relocated e n (factsOf p h b)
+      factsOf p (sentHeader hops e (n .address) h) (sentBody p e extra (n .port) b) ≡ relocated hops e n (factsOf p h b)
   facts-sent p Source k =
-      same-parts p (address-put Source (n .address) h l) (port-put p Source extra (n .port) b k)
-      (address-stays Source (n .address) h) (other-port extra (n .port) b p Source k) (header-ttl Source (n .address) h l)
+      same-parts p (address-put hops Source (n .address) h l) (port-put p Source extra (n .port) b k)
+      (address-stays hops Source (n .address) h) (other-port extra (n .port) b p Source k) (header-ttl hops Source (n .address) h l)
   facts-sent p Destination k =
-      same-parts p (address-stays Destination (n .address) h) (other-port extra (n .port) b p Destination k)
-      (address-put Destination (n .address) h l) (port-put p Destination extra (n .port) b k) (header-ttl Destination (n .address) h l)
+      same-parts p (address-stays hops Destination (n .address) h) (other-port extra (n .port) b p Destination k)
+      (address-put hops Destination (n .address) h l) (port-put p Destination extra (n .port) b k) (header-ttl hops Destination (n .address) h l)
 
 -- the packet that leaves, as its two parts
-abbrev pub headerSent : End → Endpoint → List ℕ → List ℕ
-headerSent e n bs = sentHeader e (n .address) (headerOf bs)
+abbrev pub headerSent : ℕ → End → Endpoint → List ℕ → List ℕ
+headerSent hops e n bs = sentHeader hops e (n .address) (headerOf bs)
 
-abbrev pub bodySent : Protocol → End → Endpoint → List ℕ → List ℕ
-bodySent p e n bs = sentBody p e (besides p (headerSent e n bs) (length (bodyOf bs))) (n .port) (bodyOf bs)
+abbrev pub bodySent : ℕ → Protocol → End → Endpoint → List ℕ → List ℕ
+bodySent hops p e n bs = sentBody p e (besides p (headerSent hops e n bs) (length (bodyOf bs))) (n .port) (bodyOf bs)
 
-pub sent-parts : (p : Protocol) (e : End) (n : Endpoint) (bs : List ℕ) → sent p e n bs ≡ headerSent e n bs ++ bodySent p e n bs
+pub sent-parts : (hops : ℕ) (p : Protocol) (e : End) (n : Endpoint) (bs : List ℕ) → sent hops p e n bs ≡ headerSent hops e n bs ++ bodySent hops p e n bs
 unfolding sent
-sent-parts p e n bs = refl
+sent-parts hops p e n bs = refl
 
-module _ (bs : List ℕ) (f : Facts) (e : End) (n : Endpoint) (r : Read bs f) where
-  pub header-long : length (headerSent e n bs) ≡ 20
-  header-long = length-sent-header e (n .address) (headerOf bs) ∙ length-header bs (r .long)
+module _ (bs : List ℕ) (f : Facts) (hops : ℕ) (e : End) (n : Endpoint) (r : Read bs f) where
+  pub header-long : length (headerSent hops e n bs) ≡ 20
+  header-long = length-sent-header hops e (n .address) (headerOf bs) ∙ length-header bs (r .long)
 
-  pub header-there : headerOf (sent (f .protocol) e n bs) ≡ headerSent e n bs
-  header-there = ap headerOf (sent-parts (f .protocol) e n bs) ∙ header-out (headerSent e n bs) (bodySent (f .protocol) e n bs) header-long
+  pub header-there : headerOf (sent hops (f .protocol) e n bs) ≡ headerSent hops e n bs
+  header-there = ap headerOf (sent-parts hops (f .protocol) e n bs) ∙ header-out (headerSent hops e n bs) (bodySent hops (f .protocol) e n bs) header-long
 
-  pub body-there : bodyOf (sent (f .protocol) e n bs) ≡ bodySent (f .protocol) e n bs
-  body-there = ap bodyOf (sent-parts (f .protocol) e n bs) ∙ body-out (headerSent e n bs) (bodySent (f .protocol) e n bs) header-long
+  pub body-there : bodyOf (sent hops (f .protocol) e n bs) ≡ bodySent hops (f .protocol) e n bs
+  body-there = ap bodyOf (sent-parts hops (f .protocol) e n bs) ∙ body-out (headerSent hops e n bs) (bodySent hops (f .protocol) e n bs) header-long
 
   pub least-there : leastOf (f .protocol) ≤ length (bodyOf bs)
   least-there = fits-least (f .protocol) (bodyOf bs) (r .tests .fits)
 
-  sent-long : 20 ≤ length (sent (f .protocol) e n bs)
+  sent-long : 20 ≤ length (sent hops (f .protocol) e n bs)
   sent-long =
-      omega (arith, ap length (sent-parts (f .protocol) e n bs), length-append (headerSent e n bs) (bodySent (f .protocol) e n bs), header-long)
+      omega (arith, ap length (sent-parts hops (f .protocol) e n bs), length-append (headerSent hops e n bs) (bodySent hops (f .protocol) e n bs), header-long)
 
-  sent-tests : Readable (f .protocol) (headerSent e n bs) (bodySent (f .protocol) e n bs)
+  sent-tests : Readable (f .protocol) (headerSent hops e n bs) (bodySent hops (f .protocol) e n bs)
   sent-tests =
       let p : Protocol = f .protocol in
       let h : List ℕ = headerOf bs in
       let b : List ℕ = bodyOf bs in
-      let x : ℕ = besides p (headerSent e n bs) (length b) in
+      let x : ℕ = besides p (headerSent hops e n bs) (length b) in
       record {
-        payload = ap payloadOf (low-byte e (n .address) h 9 (omega arith) (omega arith)) ∙ r .tests .payload;
-        plain = plain-sent e (n .address) h b (bodySent p e n bs) (length-sent-body p e x (n .port) b) (r .tests .plain);
+        payload = ap payloadOf (low-byte hops e (n .address) h 9 (omega arith) (omega arith)) ∙ r .tests .payload;
+        plain = plain-sent hops e (n .address) h b (bodySent hops p e n bs) (length-sent-body p e x (n .port) b) (r .tests .plain);
         fits = fits-sent x (n .port) b p e (r .tests .fits);
-        header = header-right e (n .address) h (length-header bs (r .long));
-        body = right-sent p e (headerSent e n bs) (n .port) b least-there;
+        header = header-right hops e (n .address) h (length-header bs (r .long));
+        body = right-sent p e (headerSent hops e n bs) (n .port) b least-there;
         own = own-sent x (n .port) b p e (r .tests .own);
       }
 
-  sent-facts : factsOf (f .protocol) (headerSent e n bs) (bodySent (f .protocol) e n bs) ≡ relocated e n f
+  sent-facts : factsOf (f .protocol) (headerSent hops e n bs) (bodySent hops (f .protocol) e n bs) ≡ relocated hops e n f
   sent-facts =
-      facts-sent n (headerOf bs) (bodyOf bs) (besides (f .protocol) (headerSent e n bs) (length (bodyOf bs))) (length-header bs (r .long)) (f .protocol) e least-there
-      ∙ ap (λ g. relocated e n g) (sym (r .facts))
+      facts-sent hops n (headerOf bs) (bodyOf bs) (besides (f .protocol) (headerSent hops e n bs) (length (bodyOf bs))) (length-header bs (r .long)) (f .protocol) e least-there
+      ∙ ap (λ g. relocated hops e n g) (sym (r .facts))
 
-  sent-read : readOf (sent (f .protocol) e n bs) ≡ Ok (Packet (relocated e n f))
+  sent-read : readOf (sent hops (f .protocol) e n bs) ≡ Ok (Packet (relocated hops e n f))
   sent-read =
-      let tests : Readable (f .protocol) (headerOf (sent (f .protocol) e n bs)) (bodyOf (sent (f .protocol) e n bs)) =
-      subst (λ c. Readable (f .protocol) (headerOf (sent (f .protocol) e n bs)) c) (sym body-there)
-      (subst (λ g. Readable (f .protocol) g (bodySent (f .protocol) e n bs)) (sym header-there) sent-tests) in
-      is-read (sent (f .protocol) e n bs) (f .protocol) sent-long tests
-      ∙ (ap (λ g. Ok (Packet (factsOf (f .protocol) g (bodyOf (sent (f .protocol) e n bs))))) header-there
-      ∙ (ap (λ c. Ok (Packet (factsOf (f .protocol) (headerSent e n bs) c))) body-there
+      let tests : Readable (f .protocol) (headerOf (sent hops (f .protocol) e n bs)) (bodyOf (sent hops (f .protocol) e n bs)) =
+      subst (λ c. Readable (f .protocol) (headerOf (sent hops (f .protocol) e n bs)) c) (sym body-there)
+      (subst (λ g. Readable (f .protocol) g (bodySent hops (f .protocol) e n bs)) (sym header-there) sent-tests) in
+      is-read (sent hops (f .protocol) e n bs) (f .protocol) sent-long tests
+      ∙ (ap (λ g. Ok (Packet (factsOf (f .protocol) g (bodyOf (sent hops (f .protocol) e n bs))))) header-there
+      ∙ (ap (λ c. Ok (Packet (factsOf (f .protocol) (headerSent hops e n bs) c))) body-there
       ∙ ap (λ g. Ok (Packet g)) sent-facts))
 
 pub read-again : ReadAgain
-read-again bs f e n read = sent-read bs f e n (was-read bs f read)
+read-again bs f hops e n read = sent-read bs f hops e n (was-read bs f read)

@@ -30,9 +30,9 @@ end-back bs f x r =
     ap {B = Endpoint} (λ q. record { address = f .destination .address; port = q }) port
 
 pub out-and-back : OutAndBack
-out-and-back bs answer f g external read-out read-answer a = (
-  relocated Destination (f .source) g,
-  read-again answer g Destination (f .source) read-answer,
+out-and-back bs answer f g hops hopsBack external read-out read-answer a = (
+  relocated hopsBack Destination (f .source) g,
+  read-again answer g hopsBack Destination (f .source) read-answer,
   record {
     protocol = a .protocol;
     source =

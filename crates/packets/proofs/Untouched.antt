@@ -56,37 +56,37 @@ apart p e j t =
       body = outside (20 + sumAt p) 2 j (o .4);
     }
 
-module _ (bs : List ℕ) (f : Facts) (e : End) (n : Endpoint) (r : Read bs f) where
-  parts-long : length (headerSent e n bs ++ bodySent (f .protocol) e n bs) ≡ length bs
+module _ (bs : List ℕ) (f : Facts) (hops : ℕ) (e : End) (n : Endpoint) (r : Read bs f) where
+  parts-long : length (headerSent hops e n bs ++ bodySent hops (f .protocol) e n bs) ≡ length bs
   parts-long =
       omega (
         arith,
-        length-append (headerSent e n bs) (bodySent (f .protocol) e n bs),
-        header-long bs f e n r,
-        length-sent-body (f .protocol) e (besides (f .protocol) (headerSent e n bs) (length (bodyOf bs))) (n .port) (bodyOf bs),
+        length-append (headerSent hops e n bs) (bodySent hops (f .protocol) e n bs),
+        header-long bs f hops e n r,
+        length-sent-body (f .protocol) e (besides (f .protocol) (headerSent hops e n bs) (length (bodyOf bs))) (n .port) (bodyOf bs),
         length-drop 20 bs,
         r .long,
       )
 
-  parts-byte : (j : ℕ) → Apart (f .protocol) e j → byteAt (headerSent e n bs ++ bodySent (f .protocol) e n bs) j ≡ byteAt bs j
+  parts-byte : (j : ℕ) → Apart (f .protocol) e j → byteAt (headerSent hops e n bs ++ bodySent hops (f .protocol) e n bs) j ≡ byteAt bs j
   parts-byte j a = elim (cases-lt j 20) [
     | inl low ↦
-        getD-append-left (headerSent e n bs) (bodySent (f .protocol) e n bs) 0 j (omega (arith, header-long bs f e n r))
-        ∙ (header-byte e (n .address) (headerOf bs) j (a .ttl) (above 10 1 j (a .sum)) (above (addressAt e) 3 j (a .address))
+        getD-append-left (headerSent hops e n bs) (bodySent hops (f .protocol) e n bs) 0 j (omega (arith, header-long bs f hops e n r))
+        ∙ (header-byte hops e (n .address) (headerOf bs) j (a .ttl) (above 10 1 j (a .sum)) (above (addressAt e) 3 j (a .address))
         ∙ getD-take 20 bs j 0 low)
     | inr high ↦
         let k : ℕ = j - 20 in
         let j-is : 20 + k ≡ j = omega arith in
-        getD-append-right (headerSent e n bs) (bodySent (f .protocol) e n bs) 20 j 0 (header-long bs f e n r) high
-        ∙ (body-byte (f .protocol) e (besides (f .protocol) (headerSent e n bs) (length (bodyOf bs))) (n .port) (bodyOf bs) k
+        getD-append-right (headerSent hops e n bs) (bodySent hops (f .protocol) e n bs) 20 j 0 (header-long bs f hops e n r) high
+        ∙ (body-byte (f .protocol) e (besides (f .protocol) (headerSent hops e n bs) (length (bodyOf bs))) (n .port) (bodyOf bs) k
         (shifted (portAt (f .protocol) e) 1 20 k j j-is (a .port)) (shifted (sumAt (f .protocol)) 1 20 k j j-is (a .body))
         ∙ (getD-drop 20 bs k 0 ∙ ap (λ i. byteAt bs i) j-is))
   ]
 
 pub others-stay : OthersStay
-others-stay bs f e n read =
+others-stay bs f hops e n read =
     let r : Read bs f = was-read bs f read in
     record {
-      long = ap length (sent-parts (f .protocol) e n bs) ∙ parts-long bs f e n r;
-      bytes = λ j t. ap (λ xs. byteAt xs j) (sent-parts (f .protocol) e n bs) ∙ parts-byte bs f e n r j (apart (f .protocol) e j t);
+      long = ap length (sent-parts hops (f .protocol) e n bs) ∙ parts-long bs f hops e n r;
+      bytes = λ j t. ap (λ xs. byteAt xs j) (sent-parts hops (f .protocol) e n bs) ∙ parts-byte bs f hops e n r j (apart (f .protocol) e j t);
     }

@@ -28,14 +28,14 @@ otherPort Echo new old = new
 abbrev pub otherEnd : Protocol → Endpoint → Endpoint → Endpoint
 otherEnd p new old = record { address = old .address; port = otherPort p (new .port) (old .port) }
 
--- the facts of a packet after one end was replaced
-abbrev pub relocated : End → Endpoint → Facts → Facts
-relocated Source n f = record { protocol = f .protocol; source = n; destination = otherEnd (f .protocol) n (f .destination); ttl = f .ttl - 1 }
-relocated Destination n f = record { protocol = f .protocol; source = otherEnd (f .protocol) n (f .source); destination = n; ttl = f .ttl - 1 }
+-- the facts of a packet after one end was replaced and some hops counted
+abbrev pub relocated : ℕ → End → Endpoint → Facts → Facts
+relocated hops Source n f = record { protocol = f .protocol; source = n; destination = otherEnd (f .protocol) n (f .destination); ttl = f .ttl - hops }
+relocated hops Destination n f = record { protocol = f .protocol; source = otherEnd (f .protocol) n (f .source); destination = n; ttl = f .ttl - hops }
 
 -- 1. What leaves can be read again, with the new facts.
 abbrev pub ReadAgain : Type 0
-ReadAgain = (bs : List ℕ) (f : Facts) (e : End) (n : Endpoint) → readOf bs ≡ Ok (Packet f) → readOf (sent (f .protocol) e n bs) ≡ Ok (Packet (relocated e n f))
+ReadAgain = (bs : List ℕ) (f : Facts) (hops : ℕ) (e : End) (n : Endpoint) → readOf bs ≡ Ok (Packet f) → readOf (sent hops (f .protocol) e n bs) ≡ Ok (Packet (relocated hops e n f))
 
 -- 2. Every sum of what leaves is what working it out afresh gives, and a UDP sum of 0 stays 0.
 pub record FreshSums (p : Protocol) (bs out : List ℕ) : Type 0 where
@@ -45,7 +45,7 @@ pub record FreshSums (p : Protocol) (bs out : List ℕ) : Type 0 where
   pub none : hasNoSum p (bodyOf bs) ≡ true → wordAt (bodyOf out) (sumAt p) ≡ 0
 
 abbrev pub SumsAreFresh : Type 0
-SumsAreFresh = (bs : List ℕ) (f : Facts) (e : End) (n : Endpoint) → readOf bs ≡ Ok (Packet f) → FreshSums (f .protocol) bs (sent (f .protocol) e n bs)
+SumsAreFresh = (bs : List ℕ) (f : Facts) (hops : ℕ) (e : End) (n : Endpoint) → readOf bs ≡ Ok (Packet f) → FreshSums (f .protocol) bs (sent hops (f .protocol) e n bs)
 
 -- 3. No byte besides the time to live, the address, the port and the two sums is touched, and none is added or lost.
 abbrev pub within : ℕ → ℕ → ℕ → Bool
@@ -59,7 +59,7 @@ pub record Untouched (p : Protocol) (e : End) (bs out : List ℕ) : Type 0 where
   pub bytes : (j : ℕ) → isTouched p e j ≡ false → byteAt out j ≡ byteAt bs j
 
 abbrev pub OthersStay : Type 0
-OthersStay = (bs : List ℕ) (f : Facts) (e : End) (n : Endpoint) → readOf bs ≡ Ok (Packet f) → Untouched (f .protocol) e bs (sent (f .protocol) e n bs)
+OthersStay = (bs : List ℕ) (f : Facts) (hops : ℕ) (e : End) (n : Endpoint) → readOf bs ≡ Ok (Packet f) → Untouched (f .protocol) e bs (sent hops (f .protocol) e n bs)
 
 -- 4. Out and back. A packet that goes out by a mapping and is answered, the answer written in by the same mapping, reaches
 -- the address and port that the packet came from, from those that it went to.
@@ -70,5 +70,5 @@ pub record Answers (answer packet : Facts) : Type 0 where
 
 abbrev pub OutAndBack : Type 0
 OutAndBack =
-    (bs answer : List ℕ) (f g : Facts) (external : Endpoint) → readOf bs ≡ Ok (Packet f) → readOf answer ≡ Ok (Packet g) → Answers g (relocated Source external f) →
-    (back : Facts) × (readOf (sent (g .protocol) Destination (f .source) answer) ≡ Ok (Packet back)) × Answers back f
+    (bs answer : List ℕ) (f g : Facts) (hops hopsBack : ℕ) (external : Endpoint) → readOf bs ≡ Ok (Packet f) → readOf answer ≡ Ok (Packet g) → Answers g (relocated hops Source external f) →
+    (back : Facts) × (readOf (sent hopsBack (g .protocol) Destination (f .source) answer) ≡ Ok (Packet back)) × Answers back f

@@ -1,4 +1,4 @@
--- The packet that leaves: one end's address and port replaced, the time to live one less, and every sum worked out afresh.
+-- The packet that leaves: one end's address and port replaced, the time to live less by some hops, and every sum worked out afresh.
 use mathlib.Core.Path.{_≡_}
 use mathlib.Core.Bool.{Bool, true, false, cond}
 use mathlib.Core.List.{List, _++_}
@@ -14,11 +14,11 @@ use Rattle.packets.specs.declared.facts.Endpoint.{Endpoint}
 use Rattle.packets.specs.Fields.{headerOf, bodyOf, headerSumAt, timeToLive, ttlAt, addressAt, portAt, sumAt, pseudoSum}
 
 -- the header, but for its sum
-abbrev pub readdressed : End → ℕ → List ℕ → List ℕ
-readdressed e address h = putLong (set h ttlAt (timeToLive h - 1)) (addressAt e) address
+abbrev pub readdressed : ℕ → End → ℕ → List ℕ → List ℕ
+readdressed hops e address h = putLong (set h ttlAt (timeToLive h - hops)) (addressAt e) address
 
-abbrev pub sentHeader : End → ℕ → List ℕ → List ℕ
-sentHeader e address h = let g = readdressed e address h in putWord g headerSumAt (fresh (restSum 0 g headerSumAt))
+abbrev pub sentHeader : ℕ → End → ℕ → List ℕ → List ℕ
+sentHeader hops e address h = let g = readdressed hops e address h in putWord g headerSumAt (fresh (restSum 0 g headerSumAt))
 
 -- what counts besides the body: a pseudo-header, but not for an echo
 abbrev pub besides : Protocol → List ℕ → ℕ → ℕ
@@ -65,7 +65,7 @@ sentBody p e extra port b =
     let c = putWord b (portAt p e) port in
     cond (hasNoSum p b) c (putWord c (sumAt p) (spelled p (fresh (restSum extra c (sumAt p)))))
 
-unfoldable pub sent : Protocol → End → Endpoint → List ℕ → List ℕ
-sent p e n bs =
-    let h = sentHeader e (n .address) (headerOf bs) in
+unfoldable pub sent : ℕ → Protocol → End → Endpoint → List ℕ → List ℕ
+sent hops p e n bs =
+    let h = sentHeader hops e (n .address) (headerOf bs) in
     h ++ sentBody p e (besides p h (length (bodyOf bs))) (n .port) (bodyOf bs)

@@ -30,30 +30,38 @@ use sums::words::put_long;
 use sums::words::put_word;
 use sums::words::word_at;
 
-// Writes the packet that goes out: its source is now `external`.
+// Writes the packet that goes out: its source is now `external`, and its time to live is one less.
 pub fn write_out(packet: &mut [u8], facts: Facts, external: Endpoint)
     requires { ⌜ readOf (now packet) ≡ Ok (Packet facts) ⌝ }
-    ensures { λ _. ⌜ now (packet .exit) ≡ sent (facts .protocol) Source external (now (packet .entry)) ⌝ }
+    ensures { λ _. ⌜ now (packet .exit) ≡ sent 1 (facts .protocol) Source external (now (packet .entry)) ⌝ }
 {
-    write(packet, facts, End::Source, external);
+    write(packet, facts, 1, End::Source, external);
 }
 
-// Writes the packet that comes in: its destination is now `internal`.
+// Writes the packet that comes in: its destination is now `internal`, and its time to live is one less.
 pub fn write_in(packet: &mut [u8], facts: Facts, internal: Endpoint)
     requires { ⌜ readOf (now packet) ≡ Ok (Packet facts) ⌝ }
-    ensures { λ _. ⌜ now (packet .exit) ≡ sent (facts .protocol) Destination internal (now (packet .entry)) ⌝ }
+    ensures { λ _. ⌜ now (packet .exit) ≡ sent 1 (facts .protocol) Destination internal (now (packet .entry)) ⌝ }
 {
-    write(packet, facts, End::Destination, internal);
+    write(packet, facts, 1, End::Destination, internal);
+}
+
+// Writes the packet that comes in right after it went out, between two subscribers: its time to live has fallen already.
+pub fn write_turned(packet: &mut [u8], facts: Facts, internal: Endpoint)
+    requires { ⌜ readOf (now packet) ≡ Ok (Packet facts) ⌝ }
+    ensures { λ _. ⌜ now (packet .exit) ≡ sent 0 (facts .protocol) Destination internal (now (packet .entry)) ⌝ }
+{
+    write(packet, facts, 0, End::Destination, internal);
 }
 
 // The packet is one that was read, so that its lengths are known and its sums are right.
-fn write(packet: &mut [u8], facts: Facts, end: End, endpoint: Endpoint)
+fn write(packet: &mut [u8], facts: Facts, hops: u8, end: End, endpoint: Endpoint)
     requires { ⌜ readOf (now packet) ≡ Ok (Packet facts) ⌝ }
-    ensures { λ _. ⌜ now (packet .exit) ≡ sent (facts .protocol) end endpoint (now (packet .entry)) ⌝ }
+    ensures { λ _. ⌜ now (packet .exit) ≡ sent hops (facts .protocol) end endpoint (now (packet .entry)) ⌝ }
 {
     let count = word_at(packet, TOTAL_LENGTH) - HEADER as u16;
     let before = sum_besides(facts.protocol, &packet[0..HEADER], count);
-    write_header(&mut packet[0..HEADER], end, endpoint.address);
+    write_header(&mut packet[0..HEADER], hops, end, endpoint.address);
     let after = sum_besides(facts.protocol, &packet[0..HEADER], count);
     write_body(
         &mut packet[HEADER..],
@@ -77,14 +85,14 @@ fn sum_besides(protocol: Protocol, header: &[u8], count: u16) -> u32
     }
 }
 
-fn write_header(header: &mut [u8], end: End, address: u32)
+fn write_header(header: &mut [u8], hops: u8, end: End, address: u32)
     requires long { ⌜ length (now header) ≡ 20 ⌝ }
     requires version { ⌜ versionAndLength (now header) ≡ 0x45 ⌝ }
     requires sum { ⌜ right (wordSum (now header)) ≡ true ⌝ }
-    ensures { λ _. ⌜ now (header .exit) ≡ sentHeader end address (now (header .entry)) ⌝ }
+    ensures { λ _. ⌜ now (header .exit) ≡ sentHeader hops end address (now (header .entry)) ⌝ }
 {
     let at = address_at(end);
-    let ttl = header[TTL].saturating_sub(1);
+    let ttl = header[TTL].saturating_sub(hops);
     let gone = u32::from(header[TTL]) * 256
         + (u32::from(word_at(header, at)) + u32::from(word_at(header, at + 2)));
     let new = u32::from(ttl) * 256 + (address / 65536 + address % 65536);

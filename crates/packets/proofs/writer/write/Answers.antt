@@ -39,10 +39,10 @@ write-header-requires c κs =
     let r : Read bs (c .args .facts) = was-read bs (c .args .facts) (c .pre) in
     record { long = length-header bs (r .long); version = plain-version (headerOf bs) (bodyOf bs) (r .tests .plain); sum = r .tests .header }
 
-module _ (bs : List ℕ) (f : Facts) (e : End) (a : ℕ) (r : Read bs f) (h : List ℕ) (h-is : h ≡ sentHeader e a (headerOf bs)) where
+module _ (bs : List ℕ) (f : Facts) (hops : ℕ) (e : End) (a : ℕ) (r : Read bs f) (h : List ℕ) (h-is : h ≡ sentHeader hops e a (headerOf bs)) where
   -- the new header is as long as the old one
   as-long : length h ≡ 20
-  as-long = ap length h-is ∙ (length-sent-header e a (headerOf bs) ∙ length-header bs (r .long))
+  as-long = ap length h-is ∙ (length-sent-header hops e a (headerOf bs) ∙ length-header bs (r .long))
 
   -- what counts besides the body, worked out from the new header in its place
   besides-there : (n k : ℕ) → n ≡ length (bodyOf bs) → k ≡ besides (f .protocol) (headerOf (h ++ bodyOf bs)) n → k ≡ besides (f .protocol) h (length (bodyOf bs))
@@ -58,13 +58,13 @@ write-body-requires c κs =
     let b : List ℕ = bodyOf bs in
     let r : Read bs f = was-read bs f (c .pre) in
     let h : List ℕ = c .write-header .last .header in
-    let l : length h ≡ 20 = as-long bs f (c .args .end) (c .args .endpoint .address) r h (c .write-header .ensures) in
+    let l : length h ≡ 20 = as-long bs f (c .args .hops) (c .args .end) (c .args .endpoint .address) r h (c .write-header .ensures) in
     let body = rest-out h b l in
     let count : c .word-at .result - 20 ≡ length b = omega (arith, total bs f r) in
     let before : c .sum-besides-before .result ≡ besides p (headerOf bs) (length b) =
     c .sum-besides-before .ensures .is ∙ ap (λ n. besides p (headerOf bs) n) count in
     let after : c .sum-besides-after .result ≡ besides p h (length b) =
-    besides-there bs f (c .args .end) (c .args .endpoint .address) r h (c .write-header .ensures) (c .word-at .result - 20)
+    besides-there bs f (c .args .hops) (c .args .end) (c .args .endpoint .address) r h (c .write-header .ensures) (c .word-at .result - 20)
     (c .sum-besides-after .result) count (c .sum-besides-after .ensures .is) in
     let least : leastOf p ≤ length b = fits-least p b (r .tests .fits) in
     record {
@@ -85,10 +85,10 @@ returns c =
     let b : List ℕ = bodyOf bs in
     let r : Read bs f = was-read bs f (c .pre) in
     let h : List ℕ = c .write-header .last .header in
-    let l : length h ≡ 20 = as-long bs f (c .args .end) (c .args .endpoint .address) r h (c .write-header .ensures) in
+    let l : length h ≡ 20 = as-long bs f (c .args .hops) (c .args .end) (c .args .endpoint .address) r h (c .write-header .ensures) in
     let count : c .word-at .result - 20 ≡ length b = omega (arith, total bs f r) in
     let after : c .sum-besides-after .result ≡ besides p h (length b) =
-    besides-there bs f (c .args .end) (c .args .endpoint .address) r h (c .write-header .ensures) (c .word-at .result - 20)
+    besides-there bs f (c .args .hops) (c .args .end) (c .args .endpoint .address) r h (c .write-header .ensures) (c .word-at .result - 20)
     (c .sum-besides-after .result) count (c .sum-besides-after .ensures .is) in
     let written : c .write-body .last .body ≡ sentBody p (c .args .end) (besides p h (length b)) (c .args .endpoint .port) b =
     c .write-body .ensures

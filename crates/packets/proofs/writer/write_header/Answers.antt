@@ -14,7 +14,7 @@ pub returns : need.returns
 returns c =
     let h : List ℕ = c .args .header .now in
     let at : c .address-at-at .result ≡ addressAt (c .args .end) = c .address-at-at .ensures in
-    let g : List ℕ = readdressed (c .args .end) (c .args .address) h in
+    let g : List ℕ = readdressed (c .args .hops) (c .args .end) (c .args .address) h in
     let edited : c .put-long .last .bytes ≡ g =
     c .put-long .ensures
     ∙ (ap (λ i. putLong (set h 8 (c .saturating-sub-ttl .result)) i (c .args .address)) at
@@ -23,7 +23,7 @@ returns c =
     ≡ timeToLive h * 256 + (wordAt h (addressAt (c .args .end)) + wordAt h (addressAt (c .args .end) + 2)) =
     omega (arith, ap (λ i. wordAt h i) at, ap (λ i. wordAt h (i + 2)) at) in
     let new : c .from-4 .result * 256 + (c .args .address / 65536 + c .args .address % 65536)
-    ≡ (timeToLive h - 1) * 256 + (c .args .address / 65536 + c .args .address % 65536) = omega arith in
+    ≡ (timeToLive h - c .args .hops) * 256 + (c .args .address / 65536 + c .args .address % 65536) = omega arith in
     let word : c .word-at-3 .result ≡ wordAt g 10 = c .word-at-3 .ensures ∙ ap (λ bs. wordAt bs 10) edited in
-    let law = header-moved (c .args .end) (c .args .address) h (c .pre .long) (c .pre .version) (c .pre .sum) in
+    let law = header-moved (c .args .hops) (c .args .end) (c .args .address) h (c .pre .long) (c .pre .version) (c .pre .sum) in
     cc
