@@ -1,0 +1,4 @@
+pub mod Transcripts
+pub mod Tidings
+pub mod Senders
+pub mod Arrivals
