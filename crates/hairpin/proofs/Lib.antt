@@ -2,3 +2,4 @@ pub mod Transcripts
 pub mod Tidings
 pub mod Senders
 pub mod Arrivals
+pub mod Turns

@@ -41,7 +41,7 @@ use Rattle.hairpin.proofs.Tidings as tidings
 use Rattle.hairpin.proofs.Tidings.{Tells, Made, made, all-made}
 
 -- whatever is sent has a sender
-sender : (c : Config) (s : State) {e : Event} {r : Step} → Shape c s e r → (p : ℕ) → r .verdict ≡ verdict.Sent p → (n : ℕ) × (senderOf e ≡ Some n)
+pub sender : (c : Config) (s : State) {e : Event} {r : Step} → Shape c s e r → (p : ℕ) → r .verdict ≡ verdict.Sent p → (n : ℕ) × (senderOf e ≡ Some n)
 sender c s (refuses r) p v = tracing.clash (cc)
 sender c s stops p v = tracing.clash (cc)
 sender c s (delivers i m a k) p v = tracing.clash (cc)

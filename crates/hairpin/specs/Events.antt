@@ -13,6 +13,7 @@ use Rattle.blocks.specs.declared.refusal.Refusal.{Refusal}
 use Rattle.blocks.specs.declared.refusal.Refusal.the-variants.{NoSubscriber, NoMapping, UnrelatedError}
 use Rattle.mappings.specs.declared.event.Event.{Event}
 use Rattle.mappings.specs.declared.event.Event.the-variants.{Unreadable, Goes, Comes}
+use Rattle.packets.specs.declared.facts.Facts.{Facts}
 use Rattle.packets.specs.declared.facts.Reading.{Reading}
 use Rattle.packets.specs.declared.facts.Reading.the-variants.{Packet, Error}
 use Rattle.packets.specs.Reading.{admittedOf, readOf, sourceOf}
@@ -24,10 +25,13 @@ abbrev pub outward : ℕ → Reading → Event
 outward n (Packet f) = Goes (record { subscriber = n; protocol = f .protocol; port = f .source .port; to = f .destination .address })
 outward n (Error h) = Unreadable UnrelatedError
 
--- what was read comes to our external address
+-- a packet comes to our external address, or it is not for us
+abbrev pub toAddress : ℕ → Facts → Event
+toAddress external f =
+    cond (eqb (f .destination .address) external) (Comes (record { protocol = f .protocol; port = f .destination .port; from = f .source .address })) (Unreadable NoMapping)
+
 abbrev pub inward : Config → Reading → Event
-inward c (Packet f) =
-    cond (eqb (f .destination .address) (c .external)) (Comes (record { protocol = f .protocol; port = f .destination .port; from = f .source .address })) (Unreadable NoMapping)
+inward c (Packet f) = toAddress (c .external) f
 inward c (Error h) = Unreadable UnrelatedError
 
 -- what is refused makes an event too

@@ -1,24 +1,29 @@
 -- What is promised of every run on bytes. Each promise is a type, and its proof is a term of it.
 use mathlib.Core.Path.{_≡_}
 use mathlib.Core.Bool.{Bool, true, false}
-use mathlib.Core.List.{List, map, List·Memᴰ}
+use mathlib.Core.List.{List, [], _∷_, map, List·Memᴰ}
 use Prim.Native.Nat.{ℕ, _<_}
 use Rattle.std.specs.declared.option.Option.the-variants.{Some}
 use Rattle.std.specs.declared.result.Result.the-variants.{Ok}
 use Rattle.blocks.specs.Config.{Config, withinLimits}
 use Rattle.blocks.specs.Ports.{addressOf, subscriberAt}
 use Rattle.blocks.specs.declared.refusal.Refusal.{Refusal}
+use Rattle.mappings.specs.declared.event.Event.the-variants.{Comes}
+use Rattle.mappings.specs.declared.event.Verdict.the-variants.{Sent, Delivered}
 use Rattle.mappings.specs.Books.{who}
+use Rattle.mappings.specs.States.{State}
 use Rattle.mappings.specs.Runs.{run}
 use Rattle.packets.specs.declared.facts.End.the-variants.{Source, Destination}
 use Rattle.packets.specs.declared.facts.Facts.{Facts}
 use Rattle.packets.specs.declared.facts.Reading.the-variants as reading
-use Rattle.packets.specs.Laws.{FreshSums, relocated}
+use Rattle.packets.specs.Laws.{FreshSums, otherPort, relocated}
 use Rattle.packets.specs.Reading.{readOf}
-use Rattle.records.specs.Records.{Item}
+use Rattle.records.specs.declared.record.Side.{Side}
+use Rattle.records.specs.Records.{Item, Packet}
 use Rattle.hairpin.specs.declared.outcome.Outcome.{Outcome}
 use Rattle.hairpin.specs.declared.outcome.Outcome.the-variants.{Out, In, Turned, Refused, Ticked}
-use Rattle.hairpin.specs.Passages.{Passage, occurrenceIn, passages, events, book}
+use Rattle.hairpin.specs.Events.{eventOf}
+use Rattle.hairpin.specs.Passages.{Passage, passage, passagesOf, occurrenceIn, eventIn, passages, events, book, homeOf}
 
 abbrev pub moment : Passage → ℕ
 moment x = x .occurrence .moment
@@ -74,3 +79,20 @@ Answered =
 -- 4. A refused packet's bytes are as they were.
 abbrev pub Untouched : Type 0
 Untouched = (c : Config) (is : List Item) (x : Passage) (r : Refusal) → List·Memᴰ x (passages c is) → x .outcome ≡ Refused r → x .left ≡ x .came
+
+-- y is the coming in of the packet of x, which went out by the port p: the same bytes, from our own external address to the port that they go to,
+-- and the time to live does not fall again
+pub record ComesBack (c : Config) (x y : Passage) (f : Facts) (p : ℕ) : Type 0 where
+  pub came : readOf (x .came) ≡ Ok (reading.Packet f)
+  pub went : x .occurrence .verdict ≡ Sent p
+  pub same : y .came ≡ x .left
+  pub event : eventIn y ≡ Comes (record { protocol = f .protocol; port = otherPort (f .protocol) p (f .destination .port); from = c .external })
+  pub left : (n q : ℕ) → y .occurrence .verdict ≡ Delivered n q →
+      readOf (y .left) ≡ Ok (reading.Packet (relocated 0 Destination (record { address = homeOf c n; port = q }) (relocated 1 Source (record { address = c .external; port = p }) f)))
+
+-- 5. A packet that is turned comes in as the next event, and its time to live falls once.
+abbrev pub TurnedOnce : Type 0
+TurnedOnce =
+    (c : Config) (s : State) (side : Side) (bs : List ℕ) → passage c s 1 (eventOf c side bs) bs .outcome ≡ Turned →
+    (y : Passage) × (passagesOf c s (Packet side bs) ≡ passage c s 1 (eventOf c side bs) bs ∷ y ∷ [])
+    × (f : Facts) × (p : ℕ) × ComesBack c (passage c s 1 (eventOf c side bs) bs) y f p

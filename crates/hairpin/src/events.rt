@@ -1,12 +1,13 @@
 // From what was read of a packet to the event that it makes.
 ghost use Rattle.blocks.specs.Settings.{config};
-ghost use Rattle.hairpin.specs.Events.{arriving, fromSubscriber, inward, outward};
+ghost use Rattle.hairpin.specs.Events.{arriving, fromSubscriber, inward, outward, toAddress};
 ghost use mathlib.Core.Path.{_≡_};
 use blocks::refusal::Refusal;
 use blocks::settings::Settings;
 use mappings::event::Event;
 use mappings::event::Inward;
 use mappings::event::Outward;
+use packets::facts::Facts;
 use packets::facts::Reading;
 use records::record::Side;
 
@@ -53,15 +54,22 @@ fn going_out(subscriber: u16, reading: Reading) -> Event
 pub fn coming_in(settings: &Settings, reading: Reading) -> Event
     ensures { λ r. ⌜ r ≡ inward (config (now (settings .entry))) reading ⌝ }
 {
-    let Reading::Packet(facts) = reading else {
-        return Event::Unreadable(Refusal::UnrelatedError);
-    };
-    if facts.destination.address != settings.external() {
-        return Event::Unreadable(Refusal::NoMapping);
+    match reading {
+        Reading::Packet(facts) => to_address(settings.external(), facts),
+        Reading::Error(_) => Event::Unreadable(Refusal::UnrelatedError),
     }
-    Event::Comes(Inward {
-        protocol: facts.protocol,
-        port: facts.destination.port,
-        from: facts.source.address,
-    })
+}
+
+fn to_address(external: u32, facts: Facts) -> Event
+    ensures { λ r. ⌜ r ≡ toAddress external facts ⌝ }
+{
+    if facts.destination.address == external {
+        Event::Comes(Inward {
+            protocol: facts.protocol,
+            port: facts.destination.port,
+            from: facts.source.address,
+        })
+    } else {
+        Event::Unreadable(Refusal::NoMapping)
+    }
 }
