@@ -1,5 +1,5 @@
-// The last tests of a packet that was read: whose it is, and whether it may go on.
-ghost use Rattle.packets.specs.Reading.{admittedOf, sourceOf, ttlOf};
+// Of what was read: where it comes from, where it goes to, and whether it may go on.
+ghost use Rattle.packets.specs.Reading.{admittedOf, destinationOf, sourceOf, ttlOf};
 ghost use mathlib.Core.Path.{_≡_};
 use crate::facts::Reading;
 use blocks::refusal::Refusal;
@@ -15,6 +15,16 @@ impl Reading {
         }
     }
 
+    // The address that it goes to.
+    pub fn destination(self) -> u32
+        ensures { λ r. ⌜ r ≡ destinationOf self ⌝ }
+    {
+        match self {
+            Reading::Packet(facts) => facts.destination.address,
+            Reading::Error(heading) => heading.destination,
+        }
+    }
+
     // Its time to live.
     fn ttl(self) -> u8
         ensures { λ r. ⌜ r ≡ ttlOf self ⌝ }
@@ -25,13 +35,10 @@ impl Reading {
         }
     }
 
-    // Refuses what comes from the inside and is no subscriber's, and then what has no time to live left.
-    pub fn admit(self, is_foreign: bool) -> Result<Reading, Refusal>
-        ensures { λ r. ⌜ r ≡ admittedOf «is_foreign» self ⌝ }
+    // Refuses what has no time to live left.
+    pub fn admit(self) -> Result<Reading, Refusal>
+        ensures { λ r. ⌜ r ≡ admittedOf self ⌝ }
     {
-        if is_foreign {
-            return Err(Refusal::NoSubscriber);
-        }
         if self.ttl() <= 1 {
             return Err(Refusal::Expired);
         }

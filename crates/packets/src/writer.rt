@@ -30,28 +30,21 @@ use sums::words::put_long;
 use sums::words::put_word;
 use sums::words::word_at;
 
-// Writes the packet that goes out: its source is now `external`, and its time to live is one less.
-pub fn write_out(packet: &mut [u8], facts: Facts, external: Endpoint)
+// Writes the packet that goes out: its source is now `external`, and its time to live is less by `hops`.
+pub fn write_out(packet: &mut [u8], facts: Facts, hops: u8, external: Endpoint)
     requires { ⌜ readOf (now packet) ≡ Ok (Packet facts) ⌝ }
-    ensures { λ _. ⌜ now (packet .exit) ≡ sent 1 (facts .protocol) Source external (now (packet .entry)) ⌝ }
+    ensures { λ _. ⌜ now (packet .exit) ≡ sent hops (facts .protocol) Source external (now (packet .entry)) ⌝ }
 {
-    write(packet, facts, 1, End::Source, external);
+    write(packet, facts, hops, End::Source, external);
 }
 
-// Writes the packet that comes in: its destination is now `internal`, and its time to live is one less.
-pub fn write_in(packet: &mut [u8], facts: Facts, internal: Endpoint)
+// Writes the packet that comes in: its destination is now `internal`, and its time to live is less by `hops`.
+// Of a packet that comes in right after it went out, between two subscribers, it has fallen already.
+pub fn write_in(packet: &mut [u8], facts: Facts, hops: u8, internal: Endpoint)
     requires { ⌜ readOf (now packet) ≡ Ok (Packet facts) ⌝ }
-    ensures { λ _. ⌜ now (packet .exit) ≡ sent 1 (facts .protocol) Destination internal (now (packet .entry)) ⌝ }
+    ensures { λ _. ⌜ now (packet .exit) ≡ sent hops (facts .protocol) Destination internal (now (packet .entry)) ⌝ }
 {
-    write(packet, facts, 1, End::Destination, internal);
-}
-
-// Writes the packet that comes in right after it went out, between two subscribers: its time to live has fallen already.
-pub fn write_turned(packet: &mut [u8], facts: Facts, internal: Endpoint)
-    requires { ⌜ readOf (now packet) ≡ Ok (Packet facts) ⌝ }
-    ensures { λ _. ⌜ now (packet .exit) ≡ sent 0 (facts .protocol) Destination internal (now (packet .entry)) ⌝ }
-{
-    write(packet, facts, 0, End::Destination, internal);
+    write(packet, facts, hops, End::Destination, internal);
 }
 
 // The packet is one that was read, so that its lengths are known and its sums are right.

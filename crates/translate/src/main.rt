@@ -65,7 +65,7 @@ fn translate_out(packet: &mut [u8], external: Endpoint) -> bool {
     let Ok(Reading::Packet(facts)) = read(packet) else {
         return false;
     };
-    write_out(packet, facts, external);
+    write_out(packet, facts, 1, external);
     true
 }
 
@@ -73,7 +73,7 @@ fn translate_in(packet: &mut [u8], internal: Endpoint) -> bool {
     let Ok(Reading::Packet(facts)) = read(packet) else {
         return false;
     };
-    write_in(packet, facts, internal);
+    write_in(packet, facts, 1, internal);
     true
 }
 
@@ -131,7 +131,7 @@ fn reading_text(heap: Global, reading: Result<Reading, Refusal>) -> Result<Strin
 }
 
 fn admitted(packet: &[u8]) -> Result<Reading, Refusal> {
-    read(packet)?.admit(false)
+    read(packet)?.admit()
 }
 
 // The lines that are printed for a case.

@@ -1,0 +1,5 @@
+pub mod Transcripts
+pub mod Tidings
+pub mod Senders
+pub mod Arrivals
+pub mod Turns
