@@ -1,1 +1,4 @@
+pub mod Digits
+pub mod Looking
 pub mod Remembering
+pub mod Slots

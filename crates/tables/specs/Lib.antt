@@ -1,2 +1,4 @@
 pub mod Given
+pub mod Models
 pub mod Rows
+pub mod Sought

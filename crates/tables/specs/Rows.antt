@@ -23,4 +23,4 @@ abbrev pub slotsOf : List (Option Mapping) → ℕ → Option mappings.Mapping
 slotsOf xs p = cond (leb lowestPort p) (slot (getD xs (p - lowestPort) None)) None
 
 abbrev pub blocksIn : Further → List ℕ
-blocksIn f = take (f .count) (f .blocks)
+blocksIn f = take (f .count) (f .given)

@@ -1,6 +1,7 @@
 // Blocks that are given, as bits of 64-bit numbers.
-ghost use Prim.Native.Nat.{ℕ, _*_, _/_, _<_, _≤_};
-ghost use Rattle.tables.specs.Given.{isGiven};
+ghost use Prim.Native.Nat.{ℕ, _*_, _-_, _/_, _<_, _≤_};
+ghost use Rattle.mappings.specs.Searches.{first, range};
+ghost use Rattle.tables.specs.Given.{isGiven, isOut};
 ghost use lib.ListN.{length};
 ghost use mathlib.Core.Bool.{false, true};
 ghost use mathlib.Core.Path.{_≡_};
@@ -33,4 +34,17 @@ pub fn remove(words: &mut [u64], block: u16)
         let at = block as usize / 64;
         words[at] ^= 1 << (block % 64);
     }
+}
+
+// The lowest block of these, from one to before the other, that is not given.
+pub fn lowest_out(words: &[u64], from: u16, end: u16) -> Option<u16>
+    requires { ⌜ end ≤ 64 * length (now words) ⌝ }
+    ensures { λ r. ⌜ r ≡ first (isOut (now (words .entry))) (range from (end - from)) ⌝ }
+{
+    for block in from..end {
+        if !has(words, block) {
+            return Some(block);
+        }
+    }
+    None
 }

@@ -6,7 +6,7 @@ mod methods;
 #[derive(Clone, Copy)]
 pub struct Further {
     // the first of these are the blocks
-    blocks: [u16; 4],
+    given: [u16; 4],
     // how many of them
     count: u8,
     ghost few: { count ≤ 4 },

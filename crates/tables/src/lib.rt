@@ -3,3 +3,4 @@ mod bits;
 mod further;
 mod mapping;
 mod searches;
+pub mod table;

@@ -14,7 +14,7 @@ impl Further {
     pub fn none() -> Further
         ensures { λ r. ⌜ blocksIn r ≡ [] ⌝ }
     {
-        Further { blocks: [0; 4], count: 0 }
+        Further { given: [0; 4], count: 0 }
     }
 
     // How many there are.
@@ -24,13 +24,20 @@ impl Further {
         self.count
     }
 
+    // The subscriber's first block, and then these: the first `1 + count` of what is returned.
+    pub fn behind(&self, first: u16) -> [u16; 5]
+        ensures { λ r. ⌜ r ≡ first ∷ now (self .entry) .given ⌝ }
+    {
+        [first, self.given[0], self.given[1], self.given[2], self.given[3]]
+    }
+
     // With one more block.
     pub fn with(self, block: u16) -> Further
         requires { ⌜ length (blocksIn self) < 4 ⌝ }
         ensures { λ r. ⌜ blocksIn r ≡ blocksIn self ++ block ∷ [] ⌝ }
     {
-        let mut blocks = self.blocks;
-        blocks[self.count as usize] = block;
-        Further { blocks, count: self.count + 1 }
+        let mut given = self.given;
+        given[self.count as usize] = block;
+        Further { given, count: self.count + 1 }
     }
 }
