@@ -1,4 +1,6 @@
 pub mod Digits
+pub mod Fresh
 pub mod Looking
+pub mod Own
 pub mod Remembering
 pub mod Slots

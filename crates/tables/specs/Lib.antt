@@ -1,3 +1,4 @@
+pub mod Backs
 pub mod Given
 pub mod Models
 pub mod Rows

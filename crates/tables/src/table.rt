@@ -15,7 +15,10 @@ use crate::mapping::Mapping;
 use blocks::settings::Settings;
 use mappings::line::Line;
 
+mod finding;
 mod making;
+mod ticking;
+mod writing;
 
 #[derive(Drop)]
 pub struct Table {

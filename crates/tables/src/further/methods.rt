@@ -1,13 +1,17 @@
 // What is asked of a subscriber's further blocks, and what becomes of them.
-ghost use Prim.Native.Nat.{_<_};
+ghost use Prim.Native.Nat.{ℕ, _<_};
+ghost use Rattle.blocks.specs.Config.{blocksOf, ports};
 ghost use Rattle.blocks.specs.Settings.{config};
 ghost use Rattle.mappings.specs.Steps.{isUsed};
 ghost use Rattle.std.specs.Changed.{kept-by};
 ghost use Rattle.tables.specs.Rows.{blocksIn, slotsOf};
-ghost use lib.ListN.{length};
+ghost use lib.ListN.{getD, length};
 ghost use mathlib.Core.List.{[], _++_, _∷_};
 ghost use mathlib.Core.Path.{_≡_};
 use super::Further;
+use crate::mapping::Mapping;
+use crate::searches::is_used;
+use blocks::settings::Settings;
 
 impl Further {
     // None yet.
@@ -39,5 +43,20 @@ impl Further {
         let mut given = self.given;
         given[self.count as usize] = block;
         Further { given, count: self.count + 1 }
+    }
+
+    // Those of which a mapping has a port.
+    pub fn keeping(self, slots: &[Option<Mapping>], settings: &Settings) -> Further
+        requires slots { ⌜ length (now slots) ≡ ports ⌝ }
+        requires within { ⌜ ((k : ℕ) → getD (blocksIn self) k 0 < blocksOf (config (now settings))) ⌝ }
+        ensures { λ r. ⌜ blocksIn r ≡ kept-by (isUsed (config (now (settings .entry))) (slotsOf (now (slots .entry)))) (blocksIn self) ⌝ }
+    {
+        let mut left = Further::none();
+        for block in &self.given[0..self.count as usize] {
+            if is_used(slots, *block, settings) {
+                left = left.with(*block);
+            }
+        }
+        left
     }
 }

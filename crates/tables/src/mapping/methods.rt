@@ -9,6 +9,7 @@ use super::Mapping;
 use blocks::settings::Settings;
 use mappings::event::Outward;
 use mappings::event::Protocol;
+use mappings::event::Verdict;
 
 // Whether the address is among these.
 fn contains(addresses: &[u32], address: u32) -> bool
@@ -110,6 +111,13 @@ impl Mapping {
         ensures { λ r. ⌜ r ≡ sameProtocol (now (self .entry) .protocol) protocol ⌝ }
     {
         same(self.protocol, protocol)
+    }
+
+    // What comes in by it is delivered there.
+    pub fn delivered(&self) -> Verdict
+        ensures { λ r. ⌜ r ≡ Verdict.Delivered (now (self .entry) .subscriber) (now (self .entry) .port) ⌝ }
+    {
+        Verdict::Delivered { subscriber: self.subscriber, port: self.port }
     }
 
     // Whether it sent to this address lately.
