@@ -10,7 +10,7 @@ use lib.ListN.{length, getD, set}
 use Rattle.std.specs.declared.option.Option.{Option}
 use Rattle.std.specs.declared.option.Option.the-variants.{Some, None}
 use Rattle.std.proofs.shelf.Bits.{mul-le}
-use Rattle.std.proofs.shelf.Lists.{getD-default}
+use Rattle.std.proofs.shelf.Lists.{getD-default, getD-set-same, getD-set-other}
 use Rattle.std.proofs.shelf.Tests.{cond-true, cond-false, le-leb, lt-leb, eq-eqb, ne-eqb, cases-eq, cases-lt}
 use Rattle.blocks.specs.Config.{Config, lowestPort, blocksOf, ports}
 use Rattle.blocks.specs.Settings.{config}
@@ -32,3 +32,22 @@ slot-at xs at =
 -- the slot that was read
 pub slot-read : (xs : List (Option Mapping)) (at : ℕ) (v : Option Mapping) → at < length xs → v ≡ getD xs at v → slotsOf xs (lowestPort + at) ≡ slot v
 slot-read xs at v within e = slot-at xs at ∙ ap slot (getD-default xs at None v within ∙ sym e)
+
+-- the slots after one was written
+pub slots-put : (xs : List (Option Mapping)) (port : ℕ) (v : Option Mapping) → lowestPort ≤ port → port - lowestPort < length xs →
+    (p : ℕ) → slotsOf (set xs (port - lowestPort) v) p ≡ cond (eqb p port) (slot v) (slotsOf xs p)
+slots-put xs port v low within p = ⊎-elim here there (cases-eq p port)
+  where
+    here : p ≡ port → slotsOf (set xs (port - lowestPort) v) p ≡ cond (eqb p port) (slot v) (slotsOf xs p)
+    here e =
+        ap (λ q. slotsOf (set xs (port - lowestPort) v) q) e ∙ cond-true (leb lowestPort port) _ _ (le-leb lowestPort port low)
+        ∙ ap slot (getD-set-same xs (port - lowestPort) v None within) ∙ sym (cond-true (eqb p port) (slot v) (slotsOf xs p) (eq-eqb p port e))
+    there : (p ≡ port → ⊥) → slotsOf (set xs (port - lowestPort) v) p ≡ cond (eqb p port) (slot v) (slotsOf xs p)
+    there ne = other ∙ sym (cond-false (eqb p port) (slot v) (slotsOf xs p) (ne-eqb p port ne))
+      where
+        other : slotsOf (set xs (port - lowestPort) v) p ≡ slotsOf xs p
+        other =
+            ⊎-elim
+            (λ (below : p < lowestPort). cond-false (leb lowestPort p) _ _ (lt-leb lowestPort p below) ∙ sym (cond-false (leb lowestPort p) _ _ (lt-leb lowestPort p below)))
+            (λ (above : lowestPort ≤ p). ap (λ w. cond (leb lowestPort p) (slot w) None) (getD-set-other xs (port - lowestPort) (p - lowestPort) v None (λ e. ne (omega arith))))
+            (cases-lt p lowestPort)

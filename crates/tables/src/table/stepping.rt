@@ -1,0 +1,46 @@
+// One event: the table does what the definitions say.
+ghost use Rattle.mappings.specs.Steps.{step as stepOf};
+ghost use Rattle.tables.specs.Models.{Did, configOf, linesOf, model};
+ghost use mathlib.Core.Path.{_≡_};
+use super::Table;
+use blocks::refusal::Refusal;
+use mappings::event::Event;
+use mappings::event::Verdict;
+use mappings::line::Line;
+
+impl Table {
+    // Handles one event, and says what becomes of it.
+    pub fn step(&mut self, event: &Event) -> Verdict
+        ensures { λ r. ⌜ Did (configOf (now (self .entry))) (stepOf (configOf (now (self .entry))) (now (event .entry)) (model (now (self .entry)))) (now (self .exit)) r ⌝ }
+    {
+        self.lines.clear();
+        if self.over || self.moment == u64::MAX || (matches!(event, Event::Tick) && self.tick == u32::MAX) {
+            self.over = true;
+            return Verdict::Refused(Refusal::Exhausted);
+        }
+        match event {
+            Event::Unreadable(refusal) => self.only(Verdict::Refused(*refusal)),
+            Event::Goes(packet) => self.goes(packet),
+            Event::Comes(packet) => {
+                let verdict = self.arrival(packet, Refusal::NoMapping, Refusal::NotRemembered);
+                self.only(verdict)
+            }
+            Event::ErrorGoes(packet) => {
+                let verdict = self.error_out(packet);
+                self.only(verdict)
+            }
+            Event::ErrorComes(packet) => {
+                let verdict = self.arrival(packet, Refusal::UnrelatedError, Refusal::UnrelatedError);
+                self.only(verdict)
+            }
+            Event::Tick => self.ticks(),
+        }
+    }
+
+    // The lines that the last event wrote into the book.
+    pub fn lines(&self) -> &[Line]
+        ensures { λ r. ⌜ now r ≡ linesOf (now (self .entry)) ⌝ }
+    {
+        &self.lines
+    }
+}
