@@ -1,22 +1,28 @@
 -- The blocks of one subscriber in the table.
 use mathlib.Core.Path.{_≡_, refl, sym, _∙_, ap, subst}
 use mathlib.Core.List.{List, [], _∷_, _++_, map}
+use mathlib.Core.Bool.{Bool, true, false, cond}
 use mathlib.Core.Logic.{_⊎_, inl, inr, ⊎-elim}
 use Prim.Native.Nat.{ℕ, zero, suc, _+_, _-_, _/_, _≤_, _<_}
 use native.Mathlib.Omega.{arith}
+use lib.Dec.{ltb}
 use lib.ListN.{length, getD, set, take}
 use Rattle.std.specs.Of.Vec.{vec-items, vec-len}
 use Rattle.std.specs.Options.{isSome}
 use Rattle.std.specs.declared.option.Option.{Option}
 use Rattle.std.specs.declared.option.Option.the-variants.{Some, None}
 use Rattle.std.proofs.shelf.Lists.{getD-append-left, getD-append-right, getD-map, getD-set-other, getD-set-same, length-map, map-set}
-use Rattle.std.proofs.shelf.Tests.{cases-eq, cases-lt}
+use Rattle.std.proofs.shelf.Tests.{cases-eq, cases-lt, ltb-true}
 use Rattle.std.proofs.shelf.Bits.{div-below, mul-le}
 use Rattle.blocks.specs.Config.{blocksOf}
 use Rattle.blocks.specs.Settings.{config}
 use Rattle.blocks.specs.declared.settings.Settings.{Settings}
 use Rattle.blocks.proofs.Limits.{known}
+use Rattle.mappings.specs.Searches.{first, range}
 use Rattle.mappings.specs.States.{furtherOf}
+use Rattle.mappings.specs.Steps.{isUnheld, nextBlock}
+use Rattle.mappings.proofs.Firsts.{first-some, has-range}
+use Rattle.mappings.proofs.Options.{none-not-some}
 use Rattle.tables.specs.declared.further.Further.{Further}
 use Rattle.tables.specs.declared.table.Table.{Table}
 use Rattle.tables.specs.Given.{isGiven}
@@ -79,3 +85,14 @@ agree-set ws vs hs b v within agree there others i =
 -- the block has a bit among those of 63 numbers
 pub bit-within : (s : Settings) (b : ℕ) → b < blocksOf (config s) → b / 64 < 63
 bit-within s b h = div-below b 64 63 (omega arith) (omega (arith, few-blocks s))
+
+-- the block that is given is one, and the subscriber may have it
+pub next-known : (t : Table) (n b : ℕ) → nextBlock (configOf t) (model t) n ≡ Some b → (b < blocksOf (configOf t)) × (length (furtherOf (model t) n) < 4)
+next-known t n b e = go (ltb (length (furtherOf (model t) n)) (configOf t .further)) refl e
+  where
+    go : (q : Bool) → ltb (length (furtherOf (model t) n)) (configOf t .further) ≡ q → cond q (first (isUnheld (model t .holders)) (range (configOf t .subscribers) (blocksOf (configOf t) - configOf t .subscribers))) None ≡ Some b →
+        (b < blocksOf (configOf t)) × (length (furtherOf (model t) n) < 4)
+    go true h k =
+        let among = has-range (configOf t .subscribers) (blocksOf (configOf t) - configOf t .subscribers) b (first-some (isUnheld (model t .holders)) _ b k .0) in
+        (omega (arith, among .1, known (t .settings) .fits), omega (arith, ltb-true (length (furtherOf (model t) n)) (configOf t .further) h, known (t .settings) .more))
+    go false h k = none-not-some k

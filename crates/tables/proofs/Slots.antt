@@ -51,3 +51,8 @@ slots-put xs port v low within p = ⊎-elim here there (cases-eq p port)
             (λ (below : p < lowestPort). cond-false (leb lowestPort p) _ _ (lt-leb lowestPort p below) ∙ sym (cond-false (leb lowestPort p) _ _ (lt-leb lowestPort p below)))
             (λ (above : lowestPort ≤ p). ap (λ w. cond (leb lowestPort p) (slot w) None) (getD-set-other xs (port - lowestPort) (p - lowestPort) v None (λ e. ne (omega arith))))
             (cases-lt p lowestPort)
+
+pub slot-of : (xs : List (Option Mapping)) (port : ℕ) (v : Option Mapping) → lowestPort ≤ port → port - lowestPort < length xs → v ≡ getD xs (port - lowestPort) v → slotsOf xs port ≡ slot v
+slot-of xs port v low within e =
+    let same : port ≡ lowestPort + (port - lowestPort) = omega arith in
+    ap (slotsOf xs) same ∙ slot-read xs (port - lowestPort) v within e
