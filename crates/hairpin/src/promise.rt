@@ -5,23 +5,19 @@ ghost use Rattle.hairpin.specs.Promise.{Answered, RunOfEvents, Traced, TurnedO
 pub fn packets_are_events()
     ensures run { λ _. ⌜ RunOfEvents ⌝ }
     ensures refused { λ _. ⌜ Untouched ⌝ }
-{
-}
+{}
 
 // The book names the sender of each packet that left.
 pub fn senders_are_named()
     ensures { λ _. ⌜ Traced ⌝ }
-{
-}
+{}
 
 // What is delivered answers an earlier packet of the subscriber that gets it.
 pub fn arrivals_are_answers()
     ensures { λ _. ⌜ Answered ⌝ }
-{
-}
+{}
 
 // A packet between two subscribers comes in right after it went out, and its time to live falls once.
 pub fn turned_packets_come_in()
     ensures { λ _. ⌜ TurnedOnce ⌝ }
-{
-}
+{}

@@ -22,6 +22,10 @@ hexText (b ∷ bs) = hexDigit (b / 16) ∷ hexDigit (b % 16) ∷ hexText bs
 abbrev pub refusedText : ℕ → Refusal → List ℕ
 refusedText moment r = decimal moment ++ (codes " refused " ++ decimal (numberOf r))
 
+-- a packet that leaves at a moment, with the way that it takes
+abbrev pub packetText : ℕ → List ℕ → List ℕ → List ℕ
+packetText moment way bytes = decimal moment ++ (codes " " ++ (way ++ (codes " " ++ hexText bytes)))
+
 -- the end of a run: the count of events, the tick, and how many lines the book got
 abbrev pub endText : ℕ → ℕ → ℕ → List ℕ
 endText events tick lines = codes "events " ++ (decimal events ++ (codes " tick " ++ (decimal tick ++ (codes " lines " ++ decimal lines))))

@@ -2,7 +2,7 @@
 ghost use Prim.Native.Nat.{_<_};
 ghost use Rattle.std.specs.Of.String.{string-bytes};
 ghost use Rattle.std.specs.Vec.{made};
-ghost use Rattle.text.specs.Reports.{countText, endText, faultText, hexDigit, hexText, holderText, refusedText};
+ghost use Rattle.text.specs.Reports.{countText, endText, faultText, hexDigit, hexText, holderText, packetText, refusedText};
 ghost use mathlib.Core.Path.{_≡_};
 use blocks::refusal::Refusal;
 use std::alloc::AllocError;
@@ -14,6 +14,19 @@ pub fn refused_line(heap: Global, moment: u64, cause: Refusal) -> Result<String,
 {
     let number = cause.number();
     format!(heap, "{moment} refused {number}")
+}
+
+// A packet that leaves: `out`, `in` or `turned`, and all its bytes.
+pub fn packet_line(
+    heap: Global,
+    moment: u64,
+    way: &str,
+    packet: &[u8],
+) -> Result<String, AllocError>
+    ensures { λ r. ⌜ made r (λ s. string-bytes s ≡ packetText moment (now (way .entry)) (now (packet .entry))) ⌝ }
+{
+    let digits = hex(heap, packet)?;
+    format!(heap, "{moment} {way} {digits}")
 }
 
 // The last line of a run.
@@ -41,7 +54,12 @@ pub fn count_line(heap: Global, blocks: u16, subscribers: u16) -> Result<String,
 }
 
 // A fault in a file.
-pub fn fault_line(heap: Global, file: &str, cause: Refusal, byte: usize) -> Result<String, AllocError>
+pub fn fault_line(
+    heap: Global,
+    file: &str,
+    cause: Refusal,
+    byte: usize,
+) -> Result<String, AllocError>
     ensures { λ r. ⌜ made r (λ s. string-bytes s ≡ faultText (now (file .entry)) cause byte) ⌝ }
 {
     let number = cause.number();
@@ -52,7 +70,11 @@ fn hex_digit(n: u8) -> char
     requires { ⌜ n < 16 ⌝ }
     ensures { λ r. ⌜ r ≡ hexDigit n ⌝ }
 {
-    if n < 10 { char::from(b'0' + n) } else { char::from(b'a' + (n - 10)) }
+    if n < 10 {
+        char::from(b'0' + n)
+    } else {
+        char::from(b'a' + (n - 10))
+    }
 }
 
 // Bytes in hexadecimal, in lower case.

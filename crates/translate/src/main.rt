@@ -1,10 +1,10 @@
 // Reads cases as lines of hexadecimal digits and prints what is read from each packet, and the packet as it is written both ways.
 // A line is an external address and port, an internal address and port, and a packet; one that begins with '#' is printed as it stands.
 use blocks::refusal::Refusal;
+use mappings::event::Protocol;
 use packets::facts::Endpoint;
 use packets::facts::Facts;
 use packets::facts::Heading;
-use mappings::event::Protocol;
 use packets::facts::Reading;
 use packets::reader::read;
 use packets::writer::write_in;
