@@ -4,6 +4,7 @@ ghost use mathlib.Core.Bool.{true};
 ghost use mathlib.Core.Path.{_≡_};
 
 mod format;
+mod numbers;
 mod ports;
 
 #[derive(Clone, Copy)]

@@ -1,0 +1,58 @@
+-- Slots and the ports that they are for.
+use mathlib.Core.Path.{_≡_, refl, sym, _∙_, ap, subst}
+use mathlib.Core.Bool.{Bool, true, false, cond}
+use mathlib.Core.List.{List, [], _∷_, _++_}
+use mathlib.Core.Logic.{_⊎_, inl, inr, ⊎-elim}
+use Prim.Native.Nat.{ℕ, zero, suc, _+_, _-_, _*_, _≤_, _<_}
+use native.Mathlib.Omega.{arith}
+use lib.Dec.{eqb, leb}
+use lib.ListN.{length, getD, set}
+use Rattle.std.specs.declared.option.Option.{Option}
+use Rattle.std.specs.declared.option.Option.the-variants.{Some, None}
+use Rattle.std.proofs.shelf.Bits.{mul-le}
+use Rattle.std.proofs.shelf.Lists.{getD-default, getD-set-same, getD-set-other}
+use Rattle.std.proofs.shelf.Tests.{cond-true, cond-false, le-leb, lt-leb, eq-eqb, ne-eqb, cases-eq, cases-lt}
+use Rattle.blocks.specs.Config.{Config, lowestPort, blocksOf, ports}
+use Rattle.blocks.specs.Settings.{config}
+use Rattle.blocks.specs.declared.settings.Settings.{Settings}
+use Rattle.blocks.proofs.Limits.{known}
+use Rattle.tables.specs.declared.mapping.Mapping.{Mapping}
+use Rattle.tables.specs.Rows.{slot, slotsOf}
+
+-- the ports of a block lie among the slots
+pub block-end : (s : Settings) (b k : ℕ) → k ≡ s .size → b < blocksOf (config s) → b * k + k ≤ ports
+block-end s b k e h =
+    subst (λ n. b * n + n ≤ ports) (sym e) (omega (arith, mul-le (b + 1) (s .size) (blocksOf (config s)) (s .size) (omega arith) (omega arith), known s .whole))
+
+pub slot-at : (xs : List (Option Mapping)) (at : ℕ) → slotsOf xs (lowestPort + at) ≡ slot (getD xs at None)
+slot-at xs at =
+    let back : lowestPort + at - lowestPort ≡ at = omega arith in
+    cond-true (leb lowestPort (lowestPort + at)) _ _ (le-leb lowestPort (lowestPort + at) (omega arith)) ∙ ap (λ n. slot (getD xs n None)) back
+
+-- the slot that was read
+pub slot-read : (xs : List (Option Mapping)) (at : ℕ) (v : Option Mapping) → at < length xs → v ≡ getD xs at v → slotsOf xs (lowestPort + at) ≡ slot v
+slot-read xs at v within e = slot-at xs at ∙ ap slot (getD-default xs at None v within ∙ sym e)
+
+-- the slots after one was written
+pub slots-put : (xs : List (Option Mapping)) (port : ℕ) (v : Option Mapping) → lowestPort ≤ port → port - lowestPort < length xs →
+    (p : ℕ) → slotsOf (set xs (port - lowestPort) v) p ≡ cond (eqb p port) (slot v) (slotsOf xs p)
+slots-put xs port v low within p = ⊎-elim here there (cases-eq p port)
+  where
+    here : p ≡ port → slotsOf (set xs (port - lowestPort) v) p ≡ cond (eqb p port) (slot v) (slotsOf xs p)
+    here e =
+        ap (λ q. slotsOf (set xs (port - lowestPort) v) q) e ∙ cond-true (leb lowestPort port) _ _ (le-leb lowestPort port low)
+        ∙ ap slot (getD-set-same xs (port - lowestPort) v None within) ∙ sym (cond-true (eqb p port) (slot v) (slotsOf xs p) (eq-eqb p port e))
+    there : (p ≡ port → ⊥) → slotsOf (set xs (port - lowestPort) v) p ≡ cond (eqb p port) (slot v) (slotsOf xs p)
+    there ne = other ∙ sym (cond-false (eqb p port) (slot v) (slotsOf xs p) (ne-eqb p port ne))
+      where
+        other : slotsOf (set xs (port - lowestPort) v) p ≡ slotsOf xs p
+        other =
+            ⊎-elim
+            (λ (below : p < lowestPort). cond-false (leb lowestPort p) _ _ (lt-leb lowestPort p below) ∙ sym (cond-false (leb lowestPort p) _ _ (lt-leb lowestPort p below)))
+            (λ (above : lowestPort ≤ p). ap (λ w. cond (leb lowestPort p) (slot w) None) (getD-set-other xs (port - lowestPort) (p - lowestPort) v None (λ e. ne (omega arith))))
+            (cases-lt p lowestPort)
+
+pub slot-of : (xs : List (Option Mapping)) (port : ℕ) (v : Option Mapping) → lowestPort ≤ port → port - lowestPort < length xs → v ≡ getD xs (port - lowestPort) v → slotsOf xs port ≡ slot v
+slot-of xs port v low within e =
+    let same : port ≡ lowestPort + (port - lowestPort) = omega arith in
+    ap (slotsOf xs) same ∙ slot-read xs (port - lowestPort) v within e

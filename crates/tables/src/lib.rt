@@ -1,0 +1,6 @@
+// The tables that run: mappings by external port and blocks by subscriber, with the contract that each event does what the definitions say.
+mod bits;
+mod further;
+mod mapping;
+mod searches;
+pub mod table;
