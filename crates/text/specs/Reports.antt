@@ -35,6 +35,20 @@ abbrev pub holderText : Option ℕ → List ℕ
 holderText None = codes "nobody"
 holderText (Some n) = decimal n
 
+-- where only a damaged book could tell
+abbrev pub unknownText : Refusal → List ℕ
+unknownText r = codes "fault " ++ decimal (numberOf r)
+
+-- more names, each behind a space
+abbrev pub moreText : List ℕ → List ℕ
+moreText [] = []
+moreText (n ∷ ns) = (codes " " ++ decimal n) ++ moreText ns
+
+-- all that had a port, in order, with spaces between
+abbrev pub namesText : List ℕ → List ℕ
+namesText [] = codes "nobody"
+namesText (n ∷ ns) = decimal n ++ moreText ns
+
 -- the most further blocks given at one time, and to how many subscribers
 abbrev pub countText : ℕ → ℕ → List ℕ
 countText blocks subscribers = codes "blocks " ++ (decimal blocks ++ (codes " pitches " ++ decimal subscribers))

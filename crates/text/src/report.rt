@@ -2,7 +2,7 @@
 ghost use Prim.Native.Nat.{_<_};
 ghost use Rattle.std.specs.Of.String.{string-bytes};
 ghost use Rattle.std.specs.Vec.{made};
-ghost use Rattle.text.specs.Reports.{countText, endText, faultText, hexDigit, hexText, holderText, packetText, refusedText};
+ghost use Rattle.text.specs.Reports.{countText, endText, faultText, hexDigit, hexText, holderText, namesText, packetText, refusedText, unknownText};
 ghost use mathlib.Core.Path.{_≡_};
 use blocks::refusal::Refusal;
 use std::alloc::AllocError;
@@ -44,6 +44,29 @@ pub fn holder_line(heap: Global, holder: Option<u16>) -> Result<String, AllocErr
         Some(subscriber) => format!(heap, "{subscriber}"),
         None => String::from_str(heap, "nobody"),
     }
+}
+
+// The cause's number, in place of an answer that only a damaged book could give.
+pub fn unknown_line(heap: Global, cause: Refusal) -> Result<String, AllocError>
+    ensures { λ r. ⌜ made r (λ s. string-bytes s ≡ unknownText cause) ⌝ }
+{
+    let number = cause.number();
+    format!(heap, "fault {number}")
+}
+
+// All that had a port, in order, with spaces between; `nobody` for none.
+pub fn names_line(heap: Global, names: &[u16]) -> Result<String, AllocError>
+    ensures { λ r. ⌜ made r (λ s. string-bytes s ≡ namesText (now (names .entry))) ⌝ }
+{
+    let [first, rest @ ..] = names else {
+        return String::from_str(heap, "nobody");
+    };
+    let mut text = format!(heap, "{first}")?;
+    for name in rest {
+        let more = format!(heap, " {name}")?;
+        text.push_str(more.as_str())?;
+    }
+    Ok(text)
 }
 
 // The most further blocks given at one time, and to how many subscribers.
