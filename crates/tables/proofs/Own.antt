@@ -8,6 +8,7 @@ use native.Mathlib.Omega.{arith}
 use lib.Dec.{ltb}
 use lib.ListN.{length, getD, set, take}
 use Rattle.std.specs.Of.Vec.{vec-items, vec-len}
+use Rattle.std.specs.Changed.{kept-by}
 use Rattle.std.specs.Options.{isSome}
 use Rattle.std.specs.declared.option.Option.{Option}
 use Rattle.std.specs.declared.option.Option.the-variants.{Some, None}
@@ -28,6 +29,7 @@ use Rattle.tables.specs.declared.table.Table.{Table}
 use Rattle.tables.specs.Given.{isGiven}
 use Rattle.tables.specs.Models.{configOf, model}
 use Rattle.tables.specs.Rows.{blocksIn}
+use Rattle.tables.proofs.Slots.{getD-through}
 
 -- what was read of the table's rows is the subscriber's further blocks
 pub row-read : (xs : List Further) (n : ℕ) (f : Further) → n < length xs → f ≡ getD xs n f → getD (map blocksIn xs) n [] ≡ blocksIn f
@@ -96,3 +98,16 @@ next-known t n b e = go (ltb (length (furtherOf (model t) n)) (configOf t .furth
         let among = has-range (configOf t .subscribers) (blocksOf (configOf t) - configOf t .subscribers) b (first-some (isUnheld (model t .holders)) _ b k .0) in
         (omega (arith, among .1, known (t .settings) .fits), omega (arith, ltb-true (length (furtherOf (model t) n)) (configOf t .further) h, known (t .settings) .more))
     go false h k = none-not-some k
+
+-- blocks that are kept are still blocks
+kept-within : (p : ℕ → Bool) (m : ℕ) → 0 < m → (xs : List ℕ) → ((k : ℕ) → getD xs k 0 < m) → (k : ℕ) → getD (kept-by p xs) k 0 < m
+kept-within p m some [] all k = some
+kept-within p m some (x ∷ xs) all k = go (kept-within p m some xs (λ j. all (suc j))) (p x) k
+  where
+    go : ((j : ℕ) → getD (kept-by p xs) j 0 < m) → (b : Bool) (j : ℕ) → getD (cond b (x ∷ kept-by p xs) (kept-by p xs)) j 0 < m
+    go later true zero = all 0
+    go later true (suc j) = later j
+    go later false j = later j
+
+pub rows-kept : (p : ℕ → Bool) (m : ℕ) → 0 < m → (xs : List (List ℕ)) → ((n k : ℕ) → getD (getD xs n []) k 0 < m) → (n k : ℕ) → getD (getD (map (kept-by p) xs) n []) k 0 < m
+rows-kept p m some xs all n k = subst (λ ys. getD ys k 0 < m) (sym (getD-through (kept-by p) xs n [])) (kept-within p m some (getD xs n []) (all n) k)

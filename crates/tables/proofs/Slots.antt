@@ -1,7 +1,7 @@
 -- Slots and the ports that they are for.
 use mathlib.Core.Path.{_≡_, refl, sym, _∙_, ap, subst}
 use mathlib.Core.Bool.{Bool, true, false, cond}
-use mathlib.Core.List.{List, [], _∷_, _++_}
+use mathlib.Core.List.{List, [], _∷_, _++_, map}
 use mathlib.Core.Logic.{_⊎_, inl, inr, ⊎-elim}
 use Prim.Native.Nat.{ℕ, zero, suc, _+_, _-_, _*_, _≤_, _<_}
 use native.Mathlib.Omega.{arith}
@@ -17,7 +17,10 @@ use Rattle.blocks.specs.Settings.{config}
 use Rattle.blocks.specs.declared.settings.Settings.{Settings}
 use Rattle.blocks.proofs.Limits.{known}
 use Rattle.tables.specs.declared.mapping.Mapping.{Mapping}
-use Rattle.tables.specs.Rows.{slot, slotsOf}
+use Rattle.mappings.specs.Mappings.{liveOrResting}
+use Rattle.mappings.specs.Steps.{leftAt, leftOf}
+use Rattle.tables.specs.Backs.{keptIn}
+use Rattle.tables.specs.Rows.{meaning, slot, slotsOf}
 
 -- the ports of a block lie among the slots
 pub block-end : (s : Settings) (b k : ℕ) → k ≡ s .size → b < blocksOf (config s) → b * k + k ≤ ports
@@ -56,3 +59,25 @@ pub slot-of : (xs : List (Option Mapping)) (port : ℕ) (v : Option Mapping) →
 slot-of xs port v low within e =
     let same : port ≡ lowestPort + (port - lowestPort) = omega arith in
     ap (slotsOf xs) same ∙ slot-read xs (port - lowestPort) v within e
+
+-- a function that keeps the default may be read through
+pub getD-through : {A B : Type 0} (f : A → B) (xs : List A) (i : ℕ) (d : A) → getD (map f xs) i (f d) ≡ f (getD xs i d)
+getD-through f [] i d = refl
+getD-through f (x ∷ xs) zero d = refl
+getD-through f (x ∷ xs) (suc i) d = getD-through f xs i d
+
+slot-kept : (c : Config) (t : ℕ) (v : Option Mapping) → slot (keptIn c t v) ≡ leftOf c t (slot v)
+slot-kept c t None = refl
+slot-kept c t (Some m) = either (liveOrResting c t (meaning m))
+  where
+    either : (b : Bool) → slot (cond b (Some m) None) ≡ cond b (Some (meaning m)) None
+    either true = refl
+    either false = refl
+
+-- what is left of the slots at a tick
+pub slots-kept : (c : Config) (t : ℕ) (xs : List (Option Mapping)) (p : ℕ) → slotsOf (map (keptIn c t) xs) p ≡ leftAt c t (slotsOf xs) p
+slots-kept c t xs p = ap (λ v. cond (leb lowestPort p) v None) (ap slot (getD-through (keptIn c t) xs (p - lowestPort) None) ∙ slot-kept c t (getD xs (p - lowestPort) None)) ∙ either (leb lowestPort p)
+  where
+    either : (b : Bool) → cond b (leftOf c t (slot (getD xs (p - lowestPort) None))) None ≡ leftOf c t (cond b (slot (getD xs (p - lowestPort) None)) None)
+    either true = refl
+    either false = refl
