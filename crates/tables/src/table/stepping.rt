@@ -47,6 +47,20 @@ impl Table {
         }
     }
 
+    // How many events came before.
+    pub fn moment(&self) -> u64
+        ensures { λ r. ⌜ r ≡ model (now (self .entry)) .moment ⌝ }
+    {
+        self.moment
+    }
+
+    // The tick that it is.
+    pub fn tick(&self) -> u32
+        ensures { λ r. ⌜ r ≡ model (now (self .entry)) .tick ⌝ }
+    {
+        self.tick
+    }
+
     // The lines that the last event wrote into the book.
     pub fn lines(&self) -> &[Line]
         ensures { λ r. ⌜ now r ≡ linesOf (now (self .entry)) ⌝ }

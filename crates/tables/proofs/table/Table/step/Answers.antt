@@ -36,7 +36,13 @@ returns-in-ErrorComes c =
     (ap (λ v. only v (model t)) (c .arrival-verdict-in-ErrorComes .ensures) ∙ sym (ap (λ e. handled (configOf t) e (model t)) (c .in-ErrorComes .is))) (c .only-in-ErrorComes .ensures)
 
 pub returns-in-Tick : need.returns-in-Tick
-returns-in-Tick c = ?
+returns-in-Tick c =
+    let t = c .args .self .now in
+    did-step (configOf t) (c .args .event .now) (model t) (exhausted (model t)) _ _ (c .if-self .left) (omega arith)
+    (sym (ap (λ e. handled (configOf t) e (model t)) (c .in-Tick .is) ∙ cond-true _ (exhausted (model t)) (ticked (configOf t) (model t)) (le-leb lastTick (t .tick) (omega arith)))) (c .end-in-Tick .ensures)
 
 pub returns-in-Tick-2 : need.returns-in-Tick-2
-returns-in-Tick-2 c = ?
+returns-in-Tick-2 c =
+    let t = c .args .self .now in
+    did-step (configOf t) (c .args .event .now) (model t) (ticked (configOf t) (model t)) _ _ (c .if-self .left) (omega arith)
+    (sym (ap (λ e. handled (configOf t) e (model t)) (c .in-Tick-2 .is) ∙ cond-false _ (exhausted (model t)) (ticked (configOf t) (model t)) (lt-leb lastTick (t .tick) (omega arith)))) (c .ticks .ensures)
