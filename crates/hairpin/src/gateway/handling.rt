@@ -80,7 +80,7 @@ impl Gateway {
     pub fn time(&self) -> u32
         ensures { λ r. ⌜ r ≡ stateIn (now (self .entry)) .tick ⌝ }
     {
-        self.table.time()
+        self.table.tick()
     }
 
     fn handle(&mut self, reading: Result<Reading, Refusal>, event: Event, hops: u8, bytes: &mut [u8]) -> Outcome
