@@ -1,5 +1,5 @@
 // The promises over bytes, each as the contract of a function: a crate in which one of them does not hold is not built.
-ghost use Rattle.hairpin.specs.Promise.{Answered, RunOfEvents, Traced, TurnedOnce, Untouched};
+ghost use Rattle.hairpin.specs.Promise.{Answered, Main, RunOfEvents, Traced, TurnedOnce, Untouched};
 
 // A run on bytes is a run of events, and a refused packet stays as it was.
 pub fn packets_are_events()
@@ -21,3 +21,9 @@ pub fn arrivals_are_answers()
 pub fn turned_packets_come_in()
     ensures { λ _. ⌜ TurnedOnce ⌝ }
 {}
+
+// All of them together.
+pub fn promise_holds()
+    ensures { λ _. ⌜ Main ⌝ }
+{
+}

@@ -2,6 +2,5 @@
 mod bits;
 mod further;
 mod mapping;
-pub mod runs;
 mod searches;
 pub mod table;

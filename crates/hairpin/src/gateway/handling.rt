@@ -12,6 +12,7 @@ use super::Gateway;
 use crate::events::event;
 use crate::events::return_event;
 use crate::outcome::Outcome;
+use crate::promise::promise_holds;
 use crate::rewriting::is_to_us;
 use crate::rewriting::leave;
 use crate::rewriting::outcome;
@@ -32,6 +33,7 @@ impl Gateway {
         ensures gateway { λ r. ⌜ made r (IsFresh (config settings)) ⌝ }
         ensures promise { λ _. ⌜ Main ⌝ }
     {
+        promise_holds();
         let table = Table::new(heap, settings)?;
         Ok(Gateway { table })
     }
