@@ -2,7 +2,8 @@
 ghost use Prim.Native.Nat.{_<_};
 ghost use Rattle.std.specs.Of.String.{string-bytes};
 ghost use Rattle.std.specs.Vec.{made};
-ghost use Rattle.text.specs.Reports.{countText, endText, faultText, hexDigit, hexText, holderText, namesText, packetText, refusedText, unknownText};
+ghost use Rattle.text.specs.Reports.{countText, endText, faultText, hexDigit, hexText, holderText, moreText, namesText, packetText, refusedText, unknownText};
+ghost use mathlib.Core.List.{_++_};
 ghost use mathlib.Core.Path.{_≡_};
 use blocks::refusal::Refusal;
 use std::alloc::AllocError;
@@ -54,23 +55,30 @@ pub fn unknown_line(heap: Global, cause: Refusal) -> Result<String, AllocError>
     format!(heap, "fault {number}")
 }
 
-// All that had a port, in order, with spaces between; `nobody` for none.
-pub fn names_line(heap: Global, names: &[u16]) -> Result<String, AllocError>
-    ensures { λ r. ⌜ made r (λ s. string-bytes s ≡ namesText (now (names .entry))) ⌝ }
+// More names behind a text, each with a space before it.
+fn with_names(heap: Global, mut text: String, names: &[u16]) -> Result<String, AllocError>
+    ensures { λ r. ⌜ made r (λ s. string-bytes s ≡ string-bytes text ++ moreText (now (names .entry))) ⌝ }
 {
-    let [first, rest @ ..] = names else {
-        return String::from_str(heap, "nobody");
-    };
-    let mut text = format!(heap, "{first}")?;
-    for name in rest {
+    for name in names {
         let more = format!(heap, " {name}")?;
         text.push_str(more.as_str())?;
     }
     Ok(text)
 }
 
+// All that had a port, in order, with spaces between; `nobody` for none.
+pub fn names_line(heap: Global, names: &[u16]) -> Result<String, AllocError>
+    ensures { λ r. ⌜ made r (λ s. string-bytes s ≡ namesText (now (names .entry))) ⌝ }
+{
+    let [first, ..] = names else {
+        return String::from_str(heap, "nobody");
+    };
+    let text = format!(heap, "{first}")?;
+    with_names(heap, text, &names[1..])
+}
+
 // The most further blocks given at one time, and to how many subscribers.
-pub fn count_line(heap: Global, blocks: u16, subscribers: u16) -> Result<String, AllocError>
+pub fn count_line(heap: Global, blocks: usize, subscribers: usize) -> Result<String, AllocError>
     ensures { λ r. ⌜ made r (λ s. string-bytes s ≡ countText blocks subscribers) ⌝ }
 {
     format!(heap, "blocks {blocks} pitches {subscribers}")
