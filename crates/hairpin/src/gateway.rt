@@ -27,11 +27,7 @@ impl Clock {
     pub fn new() -> Clock
         ensures { λ r. ⌜ r ≡ record { moment = 0; tick = 0; over = false } ⌝ }
     {
-        Clock {
-            moment: 0,
-            tick: 0,
-            over: false,
-        }
+        Clock { moment: 0, tick: 0, over: false }
     }
 
     // The run is over.

@@ -114,10 +114,8 @@ module _ (c : Config) (g : Good c) (n : ℕ) (one : n < c .subscribers) (s : Sta
       let new = next-known c g s (o .subscriber) b e in
       let away : First c n (portOf c b 0) → ⊥ = λ x. omega (arith, lowest-in c g b .1, x .1, new .from) in
       record {
-        tick = refl;
-        none = getD-set-other (s .further) (o .subscriber) n (furtherOf s (o .subscriber) ++ b ∷ []) [] (λ x. not-mine o h (sym x)) ∙ mine;
-        slots = put-left (portOf c b 0) (Some (made (s .tick) o)) away .slots;
-      }
+          tick = refl; none = getD-set-other (s .further) (o .subscriber) n (furtherOf s (o .subscriber) ++ b ∷ []) [] (λ x. not-mine o h (sym x)) ∙ mine;
+          slots = put-left (portOf c b 0) (Some (made (s .tick) o)) away .slots }
   other-left (ticks a) h = true-not-false h
 
   owner-first : (p : ℕ) (m : Mapping) → s .slots p ≡ Some m → m .subscriber ≡ n → First c n p
@@ -137,10 +135,9 @@ module _ (c : Config) (g : Good c) (n : ℕ) (one : n < c .subscribers) (s : Sta
 
   other-keeps : {e : Event} {r : Step} → Shape c s e r → concerns c n e ≡ false → Keeps n e r
   other-keeps {e} {r} x h = record {
-    gives-none = λ l j k m. let y = given-by c s x l j k in
-        true-not-false (sym (sender-concerned c n e (ap senderOf (y .event) ∙ ap Some (ap (λ (z : Line). z .subscriber) (sym (y .line)) ∙ m))) ∙ h);
-    refuses-not = λ k j. true-not-false (sym (sender-concerned c n e k) ∙ h);
-  }
+      gives-none = λ l j k m. let y = given-by c s x l j k in
+          true-not-false (sym (sender-concerned c n e (ap senderOf (y .event) ∙ ap Some (ap (λ (z : Line). z .subscriber) (sym (y .line)) ∙ m))) ∙ h);
+      refuses-not = λ k j. true-not-false (sym (sender-concerned c n e k) ∙ h) }
 
 -- what concerns the subscriber does the same in two states that look the same to it
 pub record Mine (c : Config) (n : ℕ) (e : Event) (r q : Step) : Type 0 where
@@ -151,9 +148,8 @@ pub record Mine (c : Config) (n : ℕ) (e : Event) (r q : Step) : Type 0 where
 
 keeps-sent : (n : ℕ) (e : Event) (r : Step) (p : ℕ) → r .lines ≡ [] → r .verdict ≡ Sent p → Keeps n e r
 keeps-sent n e r p a b = record {
-  gives-none = λ l j k m. List·Memᴰ·not-nil (subst (λ ls. List·Memᴰ l ls) a j);
-  refuses-not = λ k j. let z : _≡_ {A = ℕ} 0 8 = ap refusalNumber (sym b) ∙ j in omega arith;
-}
+    gives-none = λ l j k m. List·Memᴰ·not-nil (subst (λ ls. List·Memᴰ l ls) a j);
+    refuses-not = λ k j. let z : _≡_ {A = ℕ} 0 8 = ap refusalNumber (sym b) ∙ j in omega arith }
 
 -- an event that sends nothing gives nothing
 keeps-quiet : (n : ℕ) (e : Event) (r : Step) → senderOf e ≡ None → ((l : Line) → List·Memᴰ l (r .lines) → l .change ≡ Given → ⊥) → Keeps n e r
@@ -181,15 +177,11 @@ module _ (c : Config) (g : Good c) (n : ℕ) (one : n < c .subscribers) (s t : S
 
   put-mine : (e : Event) (p : ℕ) (v w : Option Mapping) → v ≡ w → Mine c n e (sentBy p v s) (sentBy p w t)
   put-mine e p v w same = record {
-    verdict = refl;
-    left = record {
-      tick = a .tick;
-      none = a .none;
-      slots = λ q f. ap (λ x. cond (eqb q p) x (s .slots q)) same ∙ ap (λ x. cond (eqb q p) w x) (a .slots q f);
-    };
-    none = mine;
-    keeps = keeps-sent n e (sentBy p w t) p refl refl;
-  }
+      verdict = refl;
+      left = record {
+          tick = a .tick; none = a .none;
+          slots = λ q f. ap (λ x. cond (eqb q p) x (s .slots q)) same ∙ ap (λ x. cond (eqb q p) w x) (a .slots q f) };
+      none = mine; keeps = keeps-sent n e (sentBy p w t) p refl refl }
 
   only-mine : (e : Event) (v w : Verdict) → v ≡ w → Keeps n e (only w t) → Mine c n e (only v s) (only w t)
   only-mine e v w same k = record { verdict = same; left = record { tick = a .tick; none = a .none; slots = a .slots }; none = mine; keeps = k }
@@ -220,7 +212,7 @@ module _ (c : Config) (g : Good c) (n : ℕ) (one : n < c .subscribers) (s t : S
         let at-t : goes c o t ≡ byFace c o t (faceOf c o t) = cond-true (ltb (o .subscriber) (c .subscribers)) (byFace c o t (faceOf c o t)) (only (Refused NoSubscriber) t) known in
         subst (λ r. Mine c n (Goes o) r (goes c o t)) (sym at-s)
         (subst (λ q. Mine c n (Goes o) (byFace c o s (faceOf c o s)) q) (sym (at-t ∙ ap (byFace c o t) (sym (face-same o its))))
-        (face-mine (faceOf c o s) refl (subst (λ r. Keeps n (Goes o) r) at-s k)))
+            (face-mine (faceOf c o s) refl (subst (λ r. Keeps n (Goes o) r) at-s k)))
 
     error-verdict : (x : Option ℕ) → faceOf c o s ≡ x → byFaceOnly o s x ≡ byFaceOnly o t x
     error-verdict None e = refl
@@ -246,7 +238,7 @@ module _ (c : Config) (g : Good c) (n : ℕ) (one : n < c .subscribers) (s t : S
   comes-mine e i missing forgotten h f =
       only-mine e (arrival missing forgotten (i .from) (liveAnd c (s .tick) (isOfProtocol i) (s .slots (i .port)))) (arrival missing forgotten (i .from) (liveAnd c (t .tick) (isOfProtocol i) (t .slots (i .port))))
       (ap (λ x. arrival missing forgotten (i .from) (liveAnd c x (isOfProtocol i) (s .slots (i .port)))) (a .tick)
-      ∙ ap (λ v. arrival missing forgotten (i .from) (liveAnd c (t .tick) (isOfProtocol i) v)) (a .slots (i .port) (first-from c n (i .port) f)))
+          ∙ ap (λ v. arrival missing forgotten (i .from) (liveAnd c (t .tick) (isOfProtocol i) v)) (a .slots (i .port) (first-from c n (i .port) f)))
       (keeps-quiet n e _ h (λ l j k. List·Memᴰ·not-nil j))
 
   none-after : (u : State) → furtherOf u n ≡ [] → furtherOf (ticked c u .state) n ≡ []
@@ -257,19 +249,14 @@ module _ (c : Config) (g : Good c) (n : ℕ) (one : n < c .subscribers) (s t : S
     where
       given-never : (l : Line) → List·Memᴰ l (ticked c t .lines) → l .change ≡ Given → ⊥
       given-never l j k = given-not-taken (sym k ∙ taken-line c (leftAt c (t .tick + 1) (t .slots)) (t .moment) (t .tick + 1) 0 (t .holders) l j)
-
       go : (b : Bool) → leb lastTick (s .tick) ≡ b → Mine c n Tick (cond b (exhausted s) (ticked c s)) (cond b (exhausted t) (ticked c t))
       go true h = record { verdict = refl; left = record { tick = a .tick; none = a .none; slots = a .slots }; none = mine; keeps = keeps-quiet n Tick (exhausted t) refl (λ l j k. List·Memᴰ·not-nil j) }
       go false h = record {
-        verdict = refl;
-        left = record {
-          tick = ap (λ x. x + 1) (a .tick);
-          none = none-after t (a .none);
-          slots = λ p f. ap (λ x. leftOf c (x + 1) (s .slots p)) (a .tick) ∙ ap (leftOf c (t .tick + 1)) (a .slots p f);
-        };
-        none = none-after s mine;
-        keeps = keeps-quiet n Tick (ticked c t) refl given-never;
-      }
+          verdict = refl;
+          left = record {
+              tick = ap (λ x. x + 1) (a .tick); none = none-after t (a .none);
+              slots = λ p f. ap (λ x. leftOf c (x + 1) (s .slots p)) (a .tick) ∙ ap (leftOf c (t .tick + 1)) (a .slots p f) };
+          none = none-after s mine; keeps = keeps-quiet n Tick (ticked c t) refl given-never }
 
   handled-mine : (e : Event) → concerns c n e ≡ true → Keeps n e (handled c e s) → Mine c n e (handled c e s) (handled c e t)
   handled-mine (Unreadable r) h k = true-not-false (sym h)
@@ -292,26 +279,23 @@ module _ (c : Config) (n : ℕ) where
   kept-head : (s : State) (e : Event) (es : List Event) → KeptFrom c n s (e ∷ es) → Keeps n e (step c e s)
   unfolding bookFrom transcriptFrom
   kept-head s e es h = record {
-    gives-none = λ l j k m. h .given-none l (Memᴰ·append-left (bookFrom c (step c e s .state) es) j) k m;
-    refuses-not = λ k j. h .never-refused (occurrence s e (step c e s .verdict)) (List·Memᴰ·head refl) k j;
-  }
+      gives-none = λ l j k m. h .given-none l (Memᴰ·append-left (bookFrom c (step c e s .state) es) j) k m;
+      refuses-not = λ k j. h .never-refused (occurrence s e (step c e s .verdict)) (List·Memᴰ·head refl) k j }
 
   kept-tail : (s : State) (e : Event) (es : List Event) → KeptFrom c n s (e ∷ es) → KeptFrom c n (step c e s .state) es
   unfolding bookFrom transcriptFrom
   kept-tail s e es h = record {
-    given-none = λ l j k m. h .given-none l (Memᴰ·append-right (step c e s .lines) j) k m;
-    never-refused = λ x j k m. h .never-refused x (List·Memᴰ·tail j) k m;
-  }
+      given-none = λ l j k m. h .given-none l (Memᴰ·append-right (step c e s .lines) j) k m;
+      never-refused = λ x j k m. h .never-refused x (List·Memᴰ·tail j) k m }
 
   kept-cons : (s : State) (e : Event) (es : List Event) → Keeps n e (step c e s) → KeptFrom c n (step c e s .state) es → KeptFrom c n s (e ∷ es)
   unfolding bookFrom transcriptFrom
   kept-cons s e es h later = record {
-    given-none = λ l j k m. ⊎-elim (λ (i : List·Memᴰ l (step c e s .lines)). h .gives-none l i k m) (λ (i : List·Memᴰ l (bookFrom c (step c e s .state) es)). later .given-none l i k m) (List·Memᴰ·append-cases (step c e s .lines) j);
-    never-refused = λ x j k m. ⊎-elim
-        (λ (i : x ≡ occurrence s e (step c e s .verdict)). h .refuses-not (ap (λ (y : Occurrence). senderOf (y .event)) (sym i) ∙ k) (ap (λ (y : Occurrence). refusalNumber (y .verdict)) (sym i) ∙ m))
-        (λ (i : List·Memᴰ x (transcriptFrom c (step c e s .state) es)). later .never-refused x i k m)
-        (List·Memᴰ·cases-cons j);
-  }
+      given-none = λ l j k m. ⊎-elim (λ (i : List·Memᴰ l (step c e s .lines)). h .gives-none l i k m) (λ (i : List·Memᴰ l (bookFrom c (step c e s .state) es)). later .given-none l i k m) (List·Memᴰ·append-cases (step c e s .lines) j);
+      never-refused = λ x j k m. ⊎-elim
+          (λ (i : x ≡ occurrence s e (step c e s .verdict)). h .refuses-not (ap (λ (y : Occurrence). senderOf (y .event)) (sym i) ∙ k) (ap (λ (y : Occurrence). refusalNumber (y .verdict)) (sym i) ∙ m))
+          (λ (i : List·Memᴰ x (transcriptFrom c (step c e s .state) es)). later .never-refused x i k m)
+          (List·Memᴰ·cases-cons j) }
 
 -- a run that is not over at its end was never over
 not-over : (c : Config) (s : State) (es : List Event) → stateAfter c s es .over ≡ false → s .over ≡ false
@@ -360,7 +344,6 @@ module _ (c : Config) (g : Good c) (n : ℕ) (one : n < c .subscribers) where
     where
       u : State
       u = step c f t .state
-
       go : (b : Bool) → concerns c n f ≡ b → cond b (f ∷ ours fs) (ours fs) ≡ [] → (furtherOf u n ≡ [] → ours fs ≡ [] → ([] ≡ view u fs) × KeptFrom c n u fs) → ([] ≡ view t (f ∷ fs)) × KeptFrom c n t (f ∷ fs)
       go true k e later = let z : _≡_ {A = ℕ} 0 1 = cc in absurd (omega arith)
       go false k e later =
@@ -378,7 +361,6 @@ module _ (c : Config) (g : Good c) (n : ℕ) (one : n < c .subscribers) where
     where
       u : State
       u = step c f t .state
-
       go : (b : Bool) → concerns c n f ≡ b → e ∷ ours es ≡ cond b (f ∷ ours fs) (ours fs) → (Left c n s u → e ∷ ours es ≡ ours fs → Same s (e ∷ es) u fs) → Same s (e ∷ es) t (f ∷ fs)
       go true j m later =
           let same : e ≡ f = cc in
@@ -408,11 +390,10 @@ module _ (c : Config) (g : Good c) (n : ℕ) (one : n < c .subscribers) where
   mine-meets s mine e es h k keeps later t fs i a m l =
       let x = both-mine s mine e es h k keeps t a (not-over c (step c e t .state) fs l) in
       let y = later (x .none) (step c e t .state) fs (step-sound c g t i (shape c e t)) (x .left) m l in
-      let sight : ℕ → Verdict → Sight = λ u v. record { tick = u; event = e; verdict = v } in (
-        seen-mine s e es h ∙ ap (λ u. sight u (step c e s .verdict) ∷ view (step c e s .state) es) (a .tick)
-            ∙ ap (λ v. sight (t .tick) v ∷ view (step c e s .state) es) (x .verdict) ∙ ap (λ vs. sight (t .tick) (step c e t .verdict) ∷ vs) (y .0) ∙ sym (seen-mine t e fs h),
-        kept-cons c n t e fs (x .keeps) (y .1),
-      )
+      let sight : ℕ → Verdict → Sight = λ u v. record { tick = u; event = e; verdict = v } in
+      (seen-mine s e es h ∙ ap (λ u. sight u (step c e s .verdict) ∷ view (step c e s .state) es) (a .tick)
+          ∙ ap (λ v. sight (t .tick) v ∷ view (step c e s .state) es) (x .verdict) ∙ ap (λ vs. sight (t .tick) (step c e t .verdict) ∷ vs) (y .0) ∙ sym (seen-mine t e fs h),
+          kept-cons c n t e fs (x .keeps) (y .1))
 
   agrees : (es : List Event) (s : State) → Sound c s → furtherOf s n ≡ [] → stateAfter c s es .over ≡ false → KeptFrom c n s es → Agrees s es
   unfolding stateAfter seen transcriptFrom
@@ -422,7 +403,6 @@ module _ (c : Config) (g : Good c) (n : ℕ) (one : n < c .subscribers) where
     where
       u : State
       u = step c e s .state
-
       go : (b : Bool) → concerns c n e ≡ b → cond b (e ∷ ours es) (ours es) ≡ ours fs → (furtherOf u n ≡ [] → Agrees u es) → Same s (e ∷ es) t fs
       go true h q later = skip-to s mine e es (mine-meets s mine e es h (not-over c u es k) (kept-head c n s e es keeps) later) fs t j a q l
       go false h q later =
@@ -436,5 +416,5 @@ alone c w n one es fs same k l keeps =
     let i = fresh-sound c in
     let none : furtherOf s n ≡ [] = none-there (c .subscribers) n in
     let x = agrees c (good c w) n one es s i none k (record { given-none = keeps .given-none; never-refused = keeps .never-refused })
-    s fs i (record { tick = refl; none = none; slots = λ p f. refl }) same l in
+        s fs i (record { tick = refl; none = none; slots = λ p f. refl }) same l in
     (x .0, record { given-none = x .1 .given-none; never-refused = x .1 .never-refused })

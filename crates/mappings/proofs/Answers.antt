@@ -85,19 +85,15 @@ module _ (past : List Occurrence) (s : State) (b : Backed past s) where
     where
       new : Mapping
       new = noting (s .tick) (o .to) k
-
       x : Occurrence
       x = occurrence s (Goes o) (Sent q)
-
       its : (k .subscriber ≡ o .subscriber) × (k .protocol ≡ o .protocol) × (k .port ≡ o .port)
       its = of-parts o k (f .its)
-
       at : (isIn a (noted (o .to) (k .remembered)) ≡ true) → Was (past ++ x ∷ []) (s .moment + 1) q (packetOf new a)
       at i = ⊎-elim
           (λ (z : o .to ≡ a). subst (λ y. Was (past ++ x ∷ []) (s .moment + 1) q y) (same-packet o (packetOf new a) (sym (its .0)) (sym (its .1)) (sym (its .2)) z) (was-now past s o q (Sent q) refl))
           (λ (z : isIn a (k .remembered) ≡ true). quiet-backed x (s .moment + 1) q (omega arith) k a (f .there) z)
           (in-noted a (o .to) (k .remembered) i)
-
       go : ((p ≡ q) × (Some new ≡ Some m)) ⊎ ((p ≡ q → ⊥) × (s .slots p ≡ Some m)) → Was (past ++ x ∷ []) (s .moment + 1) p (packetOf m a)
       go (inl j) =
           let same = same-some (j .1) in
@@ -111,17 +107,15 @@ module _ (past : List Occurrence) (s : State) (b : Backed past s) where
     where
       new : Mapping
       new = made (s .tick) o
-
       x : Occurrence
       x = occurrence s (Goes o) (Sent q)
-
       go : ((p ≡ q) × (Some new ≡ Some m)) ⊎ ((p ≡ q → ⊥) × (s .slots p ≡ Some m)) → Was (past ++ x ∷ []) (s .moment + 1) p (packetOf m a)
       go (inl j) =
           let same = same-some (j .1) in
           let to : o .to ≡ a = in-one a (o .to) (ap (λ (y : Mapping). isIn a (y .remembered)) same ∙ h) in
           subst (λ r. Was (past ++ x ∷ []) (s .moment + 1) r (packetOf m a)) (sym (j .0))
           (subst (λ y. Was (past ++ x ∷ []) (s .moment + 1) q (packetOf y a)) same
-          (subst (λ y. Was (past ++ x ∷ []) (s .moment + 1) q y) (same-packet o (packetOf new a) refl refl refl to) (was-now past s o q (Sent q) refl)))
+              (subst (λ y. Was (past ++ x ∷ []) (s .moment + 1) q y) (same-packet o (packetOf new a) refl refl refl to) (was-now past s o q (Sent q) refl)))
       go (inr j) = quiet-backed x (s .moment + 1) p (omega arith) m a (j .1) h
 
   step-backed : (c : Config) {e : Event} {r : Step} → Shape c s e r → Backed (past ++ occurrence s e (r .verdict) ∷ []) (r .state)
@@ -164,12 +158,11 @@ delivered-known c s (ticks a) n q v = clash (cc)
 -- an earlier packet of a run is found in the whole run's transcript
 found-before : (c : Config) (es : List Event) (x : Occurrence) (h : Happened c (fresh c) es x) (p : ℕ) (o : Outward) → Was (transcriptFrom c (fresh c) (h .before)) (after c (h .before) .moment) p o →
     (y : Occurrence) × List·Memᴰ y (transcriptFrom c (fresh c) es) × SentBefore x p o y
-found-before c es x h p o w = (
-  w .0,
-  subst (λ xs. List·Memᴰ (w .0) xs) (sym (ap (transcriptFrom c (fresh c)) (h .there) ∙ transcript-on c (fresh c) (h .before) (h .event ∷ h .later)))
-      (Memᴰ·append-left (transcriptFrom c (after c (h .before)) (h .event ∷ h .later)) (w .1)),
-  record { earlier = subst (λ (z : Occurrence). w .0 .moment < z .moment) (sym (h .so)) (w .2); went = w .3; port = w .4 },
-)
+found-before c es x h p o w =
+    (w .0,
+        subst (λ xs. List·Memᴰ (w .0) xs) (sym (ap (transcriptFrom c (fresh c)) (h .there) ∙ transcript-on c (fresh c) (h .before) (h .event ∷ h .later)))
+            (Memᴰ·append-left (transcriptFrom c (after c (h .before)) (h .event ∷ h .later)) (w .1)),
+        record { earlier = subst (λ (z : Occurrence). w .0 .moment < z .moment) (sym (h .so)) (w .2); went = w .3; port = w .4 })
 
 pub answered : Answered
 answered c w es x n q j v =
@@ -182,7 +175,7 @@ answered c w es x n q j v =
     let was = backed c (h .before) .sent (i .port) m (i .from) (k .there) (k .remembered) in
     let same = same-packet (packetOf m (i .from)) (record { subscriber = n; protocol = i .protocol; port = q; to = i .from }) (d .4) (same-protocol (m .protocol) (i .protocol) (k .its)) (d .5) refl in
     let y = found-before c es x h (i .port) (record { subscriber = n; protocol = i .protocol; port = q; to = i .from })
-    (subst (λ o. Was (transcriptFrom c (fresh c) (h .before)) (s .moment) (i .port) o) same was) in
+        (subst (λ o. Was (transcriptFrom c (fresh c) (h .before)) (s .moment) (i .port) o) same was) in
     (i, ap (λ (z : Occurrence). inwardOf (z .event)) (h .so) ∙ d .2, y .0, y .1, y .2)
 
 -- an error message that goes out was known to the mapping
@@ -194,12 +187,9 @@ error-known c s (delivers i m b k) o p a v = clash (cc)
 error-known c s (errs q d m b f k) o p a v =
     let same : q ≡ o = cc in
     let port : d ≡ p = cc in
-    let its = of-parts q m (f .its) in (
-      m,
-      ap (s .slots) (sym port) ∙ f .there,
-      same-packet (packetOf m (o .to)) q (its .0) (its .1) (its .2) (ap (λ (y : Outward). y .to) (sym same)) ∙ same,
-      ap (λ (y : Outward). isIn (y .to) (m .remembered)) (sym same) ∙ k,
-    )
+    let its = of-parts q m (f .its) in
+    (m, ap (s .slots) (sym port) ∙ f .there,
+        same-packet (packetOf m (o .to)) q (its .0) (its .1) (its .2) (ap (λ (y : Outward). y .to) (sym same)) ∙ same, ap (λ (y : Outward). isIn (y .to) (m .remembered)) (sym same) ∙ k)
 error-known c s (again q d m b f) o p a v = clash (cc)
 error-known c s (makes q d f e) o p a v = clash (cc)
 error-known c s (gives q b f d e) o p a v = clash (cc)

@@ -61,7 +61,7 @@ face-found c g s i o p m e l k =
     (subst (λ n. List·Memᴰ p (portsOf c s n)) (its .0) (block-port c g s (m .subscriber) p (own .1) (own .2)))
     (is-face c (s .tick) (s .slots) o p m e l k)
     (λ z h. let t = face-test c (s .tick) (s .slots) o z h in let z-its = of-parts o (t .0) (t .3) in
-    i .face z p (t .0) m (t .1) e (t .2) l (record { subscriber = z-its .0 ∙ sym (its .0); protocol = z-its .1 ∙ sym (its .1); port = z-its .2 ∙ sym (its .2) }))
+        i .face z p (t .0) m (t .1) e (t .2) l (record { subscriber = z-its .0 ∙ sym (its .0); protocol = z-its .1 ∙ sym (its .1); port = z-its .2 ∙ sym (its .2) }))
 
 pub face-used : FaceUsed
 face-used c w es r p m o e l k =
@@ -69,8 +69,8 @@ face-used c w es r p m o e l k =
     let i = sound c w es in
     let one : o .subscriber < c .subscribers = subst (λ n. n < c .subscribers) (of-parts o m k .0) (i .owned p m e .0) in
     ap (λ x. x .verdict) (running c (Goes o) s r
-    ∙ cond-true (ltb (o .subscriber) (c .subscribers)) (byFace c o s (faceOf c o s)) (only (Refused NoSubscriber) s) (lt-ltb (o .subscriber) (c .subscribers) one)
-    ∙ ap (byFace c o s) (face-found c (good c w) s i o p m e l k))
+        ∙ cond-true (ltb (o .subscriber) (c .subscribers)) (byFace c o s (faceOf c o s)) (only (Refused NoSubscriber) s) (lt-ltb (o .subscriber) (c .subscribers) one)
+        ∙ ap (byFace c o s) (face-found c (good c w) s i o p m e l k))
 
 -- the lowest port of a block that nobody has is free
 pub given-free : (c : Config) → Good c → (s : State) → Sound c s → (n b : ℕ) → Next c s n b → (m : Mapping) → s .slots (portOf c b 0) ≡ Some m → ⊥
@@ -103,14 +103,9 @@ stays c g s i (makes o q f e) p m h l =
   where
     free : p ≡ q → s .slots p ≡ None
     free k = ap (s .slots) k ∙ not-some (s .slots q) (not-true (isSome (s .slots q)) (first-some (isFree (s .slots)) (portsOf c s (o .subscriber)) q e .1))
-stays c g s i (gives o b f a e) p m h l = (
-  m,
-  put-other (s .slots) (portOf c b 0) (Some (made (s .tick) o)) p
-      (λ k. given-free c g s i (o .subscriber) b (next-known c g s (o .subscriber) b e) m (ap (s .slots) (sym k) ∙ h)) ∙ h,
-  refl,
-  refl,
-  refl,
-)
+stays c g s i (gives o b f a e) p m h l =
+    (m, put-other (s .slots) (portOf c b 0) (Some (made (s .tick) o)) p
+        (λ k. given-free c g s i (o .subscriber) b (next-known c g s (o .subscriber) b e) m (ap (s .slots) (sym k) ∙ h)) ∙ h, refl, refl, refl)
 stays c g s i (ticks a) p m h l =
     (m, ap (leftOf c (s .tick + 1)) h ∙ cond-true (liveOrResting c (s .tick + 1) m) (Some m) None l, refl, refl, refl)
 

@@ -57,11 +57,10 @@ pub inwards-quiet : InwardsQuiet
 inwards-quiet c es e v = inward-quiet c (after c es) (shape c e (after c es)) v
 
 pub over : Over
-over c es later e h = (
-  state-on c (fresh c) es later ∙ over-state c (after c es) h later,
-  book-on c (fresh c) es later ∙ ap (λ ls. bookFrom c (fresh c) es ++ ls) (over-book c (after c es) h later) ∙ append-nil (bookFrom c (fresh c) es),
-  ap (λ (r : Step). refusalNumber (r .verdict)) (over-step c e (after c es) h),
-)
+over c es later e h =
+    (state-on c (fresh c) es later ∙ over-state c (after c es) h later,
+        book-on c (fresh c) es later ∙ ap (λ ls. bookFrom c (fresh c) es ++ ls) (over-book c (after c es) h later) ∙ append-nil (bookFrom c (fresh c) es),
+        ap (λ (r : Step). refusalNumber (r .verdict)) (over-step c e (after c es) h))
 
 -- a packet outwards never ends a run
 module _ (c : Config) (o : Outward) (s : State) where
@@ -101,7 +100,6 @@ handled-ends c Tick s a b = go (leb lastTick (s .tick)) refl
   where
     limit : (x : Bool) → leb lastTick (s .tick) ≡ x → atLimit s Tick ≡ x
     limit x h = ap (λ y. y || leb lastTick (s .tick)) b ∙ h
-
     go : (x : Bool) → leb lastTick (s .tick) ≡ x → Ends s Tick (cond x (exhausted s) (ticked c s))
     go true h = (sym (limit true h), λ k. refl)
     go false h = (a ∙ sym (limit false h), λ k. true-not-false (sym k ∙ a))
@@ -147,7 +145,6 @@ step-moment c e s l = go (s .over || leb lastMoment (s .moment)) refl
     counted-on : s .moment < lastMoment → Counted s (handled c e s) → handled c e s .state .moment ≤ lastMoment
     counted-on h (inl k) = omega arith
     counted-on h (inr k) = omega (arith, k .0)
-
     go : (b : Bool) → (s .over || leb lastMoment (s .moment)) ≡ b → cond b (exhausted s) (handled c e s) .state .moment ≤ lastMoment
     go true h = l
     go false h = counted-on (leb-false lastMoment (s .moment) (or-parts (s .over) (leb lastMoment (s .moment)) h .1)) (step-counted c s (handled-shape c e s))

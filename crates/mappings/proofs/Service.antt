@@ -56,7 +56,6 @@ no-block c g s n e = go (ltb (length (furtherOf s n)) (c .further)) refl e
   where
     search-list : List ℕ
     search-list = range (c .subscribers) (blocksOf c - c .subscribers)
-
     go : (b : Bool) → ltb (length (furtherOf s n)) (c .further) ≡ b → cond b (first (isUnheld (s .holders)) search-list) None ≡ None → NoBlock c s n
     go false h k = inl (ltb-false (length (furtherOf s n)) (c .further) h)
     go true h k = inr (λ b f. not-false (isSome (getD (s .holders) b None)) (first-none (isUnheld (s .holders)) search-list k b (further-range c g b f)))
@@ -92,16 +91,15 @@ given-in-need c w es e l j h =
     let n = x .packet .subscriber in
     let new = next-known c (good c w) s n (x .block) (x .next) in
     let same-one : n ≡ l .subscriber = ap (λ (y : Line). y .subscriber) (sym (x .line)) in
-    let same-block : x .block ≡ l .block = ap (λ (y : Line). y .block) (sym (x .line)) in (
-      ap senderOf (x .event) ∙ ap Some same-one,
-      subst (λ y. AllTaken c s y) same-one (all-taken c s i n (x .full)),
-      subst (λ y. length (furtherOf s y) < c .further) same-one (new .fewer),
-      subst (λ b. isFurther c b ≡ true) same-block (and-from (leb (c .subscribers) (x .block)) (ltb (x .block) (blocksOf c)) (le-leb (c .subscribers) (x .block) (new .from)) (lt-ltb (x .block) (blocksOf c) (new .below))),
-      subst (λ b. getD (s .holders) b None ≡ None) same-block (new .unheld),
-      λ b f k. not-false (isSome (getD (s .holders) b None))
-          (first-lowest (isUnheld (s .holders)) (c .subscribers) (blocksOf c - c .subscribers) (x .block) b (new .found)
-          (leb-true (c .subscribers) b (and-parts (leb (c .subscribers) b) (ltb b (blocksOf c)) f .0)) (subst (λ y. b < y) (sym same-block) k)),
-    )
+    let same-block : x .block ≡ l .block = ap (λ (y : Line). y .block) (sym (x .line)) in
+    (ap senderOf (x .event) ∙ ap Some same-one,
+        subst (λ y. AllTaken c s y) same-one (all-taken c s i n (x .full)),
+        subst (λ y. length (furtherOf s y) < c .further) same-one (new .fewer),
+        subst (λ b. isFurther c b ≡ true) same-block (and-from (leb (c .subscribers) (x .block)) (ltb (x .block) (blocksOf c)) (le-leb (c .subscribers) (x .block) (new .from)) (lt-ltb (x .block) (blocksOf c) (new .below))),
+        subst (λ b. getD (s .holders) b None ≡ None) same-block (new .unheld),
+        λ b f k. not-false (isSome (getD (s .holders) b None))
+            (first-lowest (isUnheld (s .holders)) (c .subscribers) (blocksOf c - c .subscribers) (x .block) b (new .found)
+                (leb-true (c .subscribers) b (and-parts (leb (c .subscribers) b) (ltb b (blocksOf c)) f .0)) (subst (λ y. b < y) (sym same-block) k)))
 
 -- a live mapping of the protocol that remembers the address lets in
 let-in-by : (c : Config) (s : State) (i : Inward) (m : Mapping) (missing forgotten : Refusal) → s .slots (i .port) ≡ Some m → live c (s .tick) m ≡ true → isOfProtocol i m ≡ true → isIn (i .from) (m .remembered) ≡ true →
@@ -113,7 +111,6 @@ let-in-by c s i m missing forgotten e l k r =
 
 pub let-in : LetIn
 let-in c w es r i m e l k d =
-    let s = after c es in (
-      ap (λ (x : Step). x .verdict) (running c (Comes i) s r) ∙ let-in-by c s i m NoMapping NotRemembered e l k d,
-      ap (λ (x : Step). x .verdict) (running c (ErrorComes i) s r) ∙ let-in-by c s i m UnrelatedError UnrelatedError e l k d,
-    )
+    let s = after c es in
+    (ap (λ (x : Step). x .verdict) (running c (Comes i) s r) ∙ let-in-by c s i m NoMapping NotRemembered e l k d,
+        ap (λ (x : Step). x .verdict) (running c (ErrorComes i) s r) ∙ let-in-by c s i m UnrelatedError UnrelatedError e l k d)

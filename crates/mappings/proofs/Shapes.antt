@@ -61,11 +61,9 @@ face-known c s o p v e k = go v k (subst (λ w. isSome (liveAnd c (s .tick) (isO
   where
     found : List·Memᴰ p (portsOf c s (o .subscriber)) × (isFace c (s .tick) (s .slots) o p ≡ true)
     found = first-some (isFace c (s .tick) (s .slots) o) (portsOf c s (o .subscriber)) p e
-
     at : (m : Mapping) → s .slots p ≡ Some m → (b : Bool) → (live c (s .tick) m && isOf o m) ≡ b → isSome (cond b (Some m) None) ≡ true → Face c s o p m
     at m h true q t = let both = and-parts (live c (s .tick) m) (isOf o m) q in record { among = found .0; there = h; lives = both .0; its = both .1 }
     at m h false q t = true-not-false (sym t)
-
     go : (w : Option Mapping) → s .slots p ≡ w → isSome (liveAnd c (s .tick) (isOf o) w) ≡ true → (m : Mapping) × (w ≡ Some m) × Face c s o p m
     go None h t = true-not-false (sym t)
     go (Some m) h t = (m, refl, at m h (live c (s .tick) m && isOf o m) refl t)

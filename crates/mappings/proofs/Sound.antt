@@ -111,7 +111,6 @@ face-test c t slots o p e = go (slots p) refl e
     at : (m : Mapping) → (b : Bool) → (live c t m && isOf o m) ≡ b → isSome (cond b (Some m) None) ≡ true → (live c t m ≡ true) × (isOf o m ≡ true)
     at m true q k = and-parts (live c t m) (isOf o m) q
     at m false q k = true-not-false (sym k)
-
     go : (v : Option Mapping) → slots p ≡ v → isSome (liveAnd c t (isOf o) v) ≡ true → (m : Mapping) × (slots p ≡ Some m) × (live c t m ≡ true) × (isOf o m ≡ true)
     go None h k = true-not-false (sym k)
     go (Some m) h k = let both = at m (live c t m && isOf o m) refl k in (m, h, both .0, both .1)

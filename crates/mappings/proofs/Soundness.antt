@@ -105,7 +105,6 @@ next-known c g s n b e = go (ltb (length (furtherOf s n)) (c .further)) refl e
   where
     lowest : Option ℕ
     lowest = first (isUnheld (s .holders)) (range (c .subscribers) (blocksOf c - c .subscribers))
-
     go : (t : Bool) → ltb (length (furtherOf s n)) (c .further) ≡ t → cond t lowest None ≡ Some b → Next c s n b
     go false h k = none-not-some k
     go true h k =
@@ -113,12 +112,8 @@ next-known c g s n b e = go (ltb (length (furtherOf s n)) (c .further)) refl e
         let r : (c .subscribers ≤ b) × (b < c .subscribers + (blocksOf c - c .subscribers)) = has-range (c .subscribers) (blocksOf c - c .subscribers) b (f .0) in
         let fit : c .subscribers ≤ blocksOf c = g .fit in
         record {
-          fewer = ltb-true (length (furtherOf s n)) (c .further) h;
-          found = k;
-          from = r .0;
-          below = omega arith;
-          unheld = not-some (getD (s .holders) b None) (not-true (isSome (getD (s .holders) b None)) (f .1));
-        }
+            fewer = ltb-true (length (furtherOf s n)) (c .further) h; found = k; from = r .0; below = omega arith;
+            unheld = not-some (getD (s .holders) b None) (not-true (isSome (getD (s .holders) b None)) (f .1)) }
 
 -- the subscriber n is given the block b
 module _ (c : Config) (s : State) (i : Sound c s) (n b : ℕ) (one : n < c .subscribers) (new : Next c s n b) where
@@ -152,8 +147,8 @@ module _ (c : Config) (s : State) (i : Sound c s) (n b : ℕ) (one : n < c .subs
   held-after : (k x : ℕ) → List·Memᴰ x (furtherOf (withBlock n b s) k) → HeldAfter k x
   held-after k x j = ⊎-elim
       (λ (e : k ≡ n). subst (λ y. HeldAfter y x) (sym e)
-      (⊎-elim (λ (l : List·Memᴰ x (furtherOf s n)). still-held n x l) (λ (l : List·Memᴰ x (b ∷ [])). subst (λ y. HeldAfter n y) (sym (List·Memᴰ·eq-of-singleton l)) now-held)
-      (List·Memᴰ·append-cases (furtherOf s n) (subst (λ ys. List·Memᴰ x ys) given-list (subst (λ y. List·Memᴰ x (furtherOf (withBlock n b s) y)) e j)))))
+          (⊎-elim (λ (l : List·Memᴰ x (furtherOf s n)). still-held n x l) (λ (l : List·Memᴰ x (b ∷ [])). subst (λ y. HeldAfter n y) (sym (List·Memᴰ·eq-of-singleton l)) now-held)
+          (List·Memᴰ·append-cases (furtherOf s n) (subst (λ ys. List·Memᴰ x ys) given-list (subst (λ y. List·Memᴰ x (furtherOf (withBlock n b s) y)) e j)))))
       (λ (ne : k ≡ n → ⊥). still-held k x (subst (λ ys. List·Memᴰ x ys) (other-list k ne) j))
       (cases-eq k n)
 
@@ -165,8 +160,8 @@ module _ (c : Config) (s : State) (i : Sound c s) (n b : ℕ) (one : n < c .subs
   listed-after : (k x : ℕ) → getD (set (s .holders) b (Some n)) x None ≡ Some k → List·Memᴰ x (furtherOf (withBlock n b s) k)
   listed-after k x e = ⊎-elim
       (λ (h : x ≡ b).
-      let same : n ≡ k = same-some (sym (now-held .0) ∙ ap (λ y. getD (set (s .holders) b (Some n)) y None) (sym h) ∙ e) in
-      subst (λ y. List·Memᴰ x (furtherOf (withBlock n b s) y)) same (Memᴰ·cast h given-among))
+          let same : n ≡ k = same-some (sym (now-held .0) ∙ ap (λ y. getD (set (s .holders) b (Some n)) y None) (sym h) ∙ e) in
+          subst (λ y. List·Memᴰ x (furtherOf (withBlock n b s) y)) same (Memᴰ·cast h given-among))
       (λ (ne : x ≡ b → ⊥). more-blocks k x (i .listed k x (sym (getD-set-other (s .holders) b x (Some n) None ne) ∙ e)))
       (cases-eq x b)
 
@@ -178,15 +173,8 @@ module _ (c : Config) (s : State) (i : Sound c s) (n b : ℕ) (one : n < c .subs
 
   block-sound : Sound c (withBlock n b s)
   block-sound = record {
-    lists = length-set (s .further) n (furtherOf s n ++ b ∷ []) ∙ i .lists;
-    blocks = length-set (s .holders) b (Some n) ∙ i .blocks;
-    owned = owned-after;
-    held = held-after;
-    listed = listed-after;
-    most = most-after;
-    rests = i .rests;
-    face = i .face;
-  }
+      lists = length-set (s .further) n (furtherOf s n ++ b ∷ []) ∙ i .lists; blocks = length-set (s .holders) b (Some n) ∙ i .blocks;
+      owned = owned-after; held = held-after; listed = listed-after; most = most-after; rests = i .rests; face = i .face }
 
 -- the lowest port of a block lies in it
 pub lowest-in : (c : Config) → Good c → (b : ℕ) → (lowestPort ≤ portOf c b 0) × (blockOf c (portOf c b 0) ≡ b)
@@ -279,14 +267,11 @@ module _ (c : Config) (g : Good c) (s : State) (i : Sound c s) where
   tick-owned : (p : ℕ) (m : Mapping) → slotsThen p ≡ Some m → (m .subscriber < c .subscribers) × (lowestPort ≤ p) × List·Memᴰ (blockOf c p) (blocksFor (ticked c s .state) (m .subscriber))
   tick-owned p m e =
       let own = i .owned p m (was p m e .0) in
-      let used : isUsed c slotsThen (blockOf c p) ≡ true = used-by c g slotsThen p m (own .1) e in (
-        own .0,
-        own .1,
-        ⊎-elim (λ (h : blockOf c p ≡ m .subscriber). List·Memᴰ·head h)
-            (λ (l : List·Memᴰ (blockOf c p) (furtherOf s (m .subscriber))). List·Memᴰ·tail
-            (subst (λ ys. List·Memᴰ (blockOf c p) ys) (sym (list-kept (isUsed c slotsThen) (s .further) (m .subscriber))) (kept-has (isUsed c slotsThen) (furtherOf s (m .subscriber)) (blockOf c p) l used)))
-            (List·Memᴰ·cases-cons (own .2)),
-      )
+      let used : isUsed c slotsThen (blockOf c p) ≡ true = used-by c g slotsThen p m (own .1) e in
+      (own .0, own .1, ⊎-elim (λ (h : blockOf c p ≡ m .subscriber). List·Memᴰ·head h)
+          (λ (l : List·Memᴰ (blockOf c p) (furtherOf s (m .subscriber))). List·Memᴰ·tail
+              (subst (λ ys. List·Memᴰ (blockOf c p) ys) (sym (list-kept (isUsed c slotsThen) (s .further) (m .subscriber))) (kept-has (isUsed c slotsThen) (furtherOf s (m .subscriber)) (blockOf c p) l used)))
+          (List·Memᴰ·cases-cons (own .2)))
 
   tick-held : (n b : ℕ) → List·Memᴰ b (furtherOf (ticked c s .state) n) → (getD (holdersLeft c slotsThen 0 (s .holders)) b None ≡ Some n) × (c .subscribers ≤ b)
   tick-held n b j =
@@ -304,7 +289,7 @@ module _ (c : Config) (g : Good c) (s : State) (i : Sound c s) where
   tick-most : (n : ℕ) → length (furtherOf (ticked c s .state) n) ≤ c .further
   tick-most n =
       let fewer : length (furtherOf (ticked c s .state) n) ≤ length (furtherOf s n) =
-      subst (λ ys. length ys ≤ length (furtherOf s n)) (sym (list-kept (isUsed c slotsThen) (s .further) n)) (kept-fewer (isUsed c slotsThen) (furtherOf s n)) in
+          subst (λ ys. length ys ≤ length (furtherOf s n)) (sym (list-kept (isUsed c slotsThen) (s .further) n)) (kept-fewer (isUsed c slotsThen) (furtherOf s n)) in
       omega (arith, i .most n)
 
   lived : (m : Mapping) → live c (s .tick + 1) m ≡ true → live c (s .tick) m ≡ true
@@ -312,15 +297,9 @@ module _ (c : Config) (g : Good c) (s : State) (i : Sound c s) where
 
   tick-sound : Sound c (ticked c s .state)
   tick-sound = record {
-    lists = length-map (s .further) (kept-by (isUsed c slotsThen)) ∙ i .lists;
-    blocks = holders-length c slotsThen 0 (s .holders) ∙ i .blocks;
-    owned = tick-owned;
-    held = tick-held;
-    listed = tick-listed;
-    most = tick-most;
-    rests = λ p m e. was p m e .1;
-    face = λ p q m n e f l k same. i .face p q m n (was p m e .0) (was q n f .0) (lived m l) (lived n k) same;
-  }
+      lists = length-map (s .further) (kept-by (isUsed c slotsThen)) ∙ i .lists; blocks = holders-length c slotsThen 0 (s .holders) ∙ i .blocks;
+      owned = tick-owned; held = tick-held; listed = tick-listed; most = tick-most; rests = λ p m e. was p m e .1;
+      face = λ p q m n e f l k same. i .face p q m n (was p m e .0) (was q n f .0) (lived m l) (lived n k) same }
 
 pub step-sound : (c : Config) → Good c → (s : State) → Sound c s → {e : Event} {r : Step} → Shape c s e r → Sound c (r .state)
 step-sound c g s i (refuses r) = counted-sound c s i
@@ -344,15 +323,10 @@ none-there (suc n) (suc k) = none-there n k
 
 pub fresh-sound : (c : Config) → Sound c (fresh c)
 fresh-sound c = record {
-  lists = length-replicate (c .subscribers) [];
-  blocks = length-replicate (blocksOf c) None;
-  owned = λ p m e. none-not-some e;
-  held = λ n b j. go n b (subst (λ ys. List·Memᴰ b ys) (none-there (c .subscribers) n) j);
-  listed = λ n b e. none-not-some (sym (nobody-there (blocksOf c) b) ∙ e);
-  most = λ n. subst (λ ys. length ys ≤ c .further) (sym (none-there (c .subscribers) n)) (omega arith);
-  rests = λ p m e. none-not-some e;
-  face = λ p q m n e f l k same. none-not-some e;
-}
+    lists = length-replicate (c .subscribers) []; blocks = length-replicate (blocksOf c) None;
+    owned = λ p m e. none-not-some e; held = λ n b j. go n b (subst (λ ys. List·Memᴰ b ys) (none-there (c .subscribers) n) j);
+    listed = λ n b e. none-not-some (sym (nobody-there (blocksOf c) b) ∙ e); most = λ n. subst (λ ys. length ys ≤ c .further) (sym (none-there (c .subscribers) n)) (omega arith);
+    rests = λ p m e. none-not-some e; face = λ p q m n e f l k same. none-not-some e }
   where
     go : (n b : ℕ) → List·Memᴰ {A = ℕ} b [] → (getD (fresh c .holders) b None ≡ Some n) × (c .subscribers ≤ b)
     go n b j = elim j [ ]

@@ -119,9 +119,9 @@ answersOnly = row (out 2 Udp 5000 7 ∷ into 1056 8 ∷ into 1056 7 ∷ []) (Las
 abbrev pub betweenSubscribers : List Row
 betweenSubscribers =
     row (out 2 Udp 5000 (settings .external) ∷ out 1 Udp 6000 (settings .external) ∷ into 1056 (settings .external) ∷ []) (Last 2)
-    (Verdicts (Sent 1040 ∷ Delivered 2 5000 ∷ []))
+        (Verdicts (Sent 1040 ∷ Delivered 2 5000 ∷ []))
     ∷ row (out 2 Udp 5000 7 ∷ out 1 Udp 6000 (settings .external) ∷ into 1056 (settings .external) ∷ []) (Last 2)
-    (Verdicts (Sent 1040 ∷ Refused NotRemembered ∷ [])) ∷ []
+        (Verdicts (Sent 1040 ∷ Refused NotRemembered ∷ [])) ∷ []
 
 -- the further block 8 is subscriber 2's, and is taken back and given to subscriber 7 in one tick's events 900 and 901
 abbrev pub handedOn : List Event

@@ -70,13 +70,8 @@ lineOf change moment tick b n = record { change = change; moment = moment; tick 
 -- the subscriber n is given the block b
 abbrev pub withBlock : ℕ → ℕ → State → State
 withBlock n b s = record {
-  slots = s .slots;
-  further = set (s .further) n (furtherOf s n ++ b ∷ []);
-  holders = set (s .holders) b (Some n);
-  tick = s .tick;
-  moment = s .moment;
-  over = s .over;
-}
+    slots = s .slots; further = set (s .further) n (furtherOf s n ++ b ∷ []); holders = set (s .holders) b (Some n);
+    tick = s .tick; moment = s .moment; over = s .over }
 
 abbrev pub isUnheld : List (Option ℕ) → ℕ → Bool
 isUnheld holders b = not (isSome (getD holders b None))
@@ -89,10 +84,8 @@ nextBlock c s n = cond (ltb (length (furtherOf s n)) (c .further)) (first (isUnh
 abbrev pub byNextBlock : Config → Outward → State → Option ℕ → Step
 byNextBlock c o s None = only (Refused NoPort) s
 byNextBlock c o s (Some b) = record {
-  state = counted (put (s .slots) (portOf c b 0) (Some (made (s .tick) o))) (withBlock (o .subscriber) b s);
-  verdict = Sent (portOf c b 0);
-  lines = lineOf Given (s .moment) (s .tick) b (o .subscriber) ∷ [];
-}
+    state = counted (put (s .slots) (portOf c b 0) (Some (made (s .tick) o))) (withBlock (o .subscriber) b s); verdict = Sent (portOf c b 0);
+    lines = lineOf Given (s .moment) (s .tick) b (o .subscriber) ∷ [] }
 
 -- out by the lowest free port of the blocks that the subscriber has
 abbrev pub byFree : Config → Outward → State → Option ℕ → Step
@@ -171,17 +164,11 @@ ticked c s =
     let t = s .tick + 1 in
     let slots = leftAt c t (s .slots) in
     record {
-      state = record {
-        slots = slots;
-        further = map (kept-by (isUsed c slots)) (s .further);
-        holders = holdersLeft c slots 0 (s .holders);
-        tick = t;
-        moment = s .moment + 1;
-        over = s .over;
-      };
-      verdict = Ticked;
-      lines = takenBack c slots (s .moment) t 0 (s .holders);
-    }
+        state = record {
+            slots = slots; further = map (kept-by (isUsed c slots)) (s .further); holders = holdersLeft c slots 0 (s .holders);
+            tick = t; moment = s .moment + 1; over = s .over };
+        verdict = Ticked;
+        lines = takenBack c slots (s .moment) t 0 (s .holders) }
 
 abbrev pub lastTick : ℕ
 lastTick = 2 ^ 32 - 1

@@ -29,11 +29,7 @@ fn run(rt: &LibcRuntime) -> Result<(), Trouble> {
 }
 
 // An answer for each question; where one is malformed, the byte at which its line begins.
-fn answer_all(
-    rt: &LibcRuntime,
-    settings: &Settings,
-    lines: &mut Lines,
-) -> Result<Option<usize>, Trouble> {
+fn answer_all(rt: &LibcRuntime, settings: &Settings, lines: &mut Lines) -> Result<Option<usize>, Trouble> {
     loop {
         let begin = lines.at();
         let Some(line) = lines.next() else {

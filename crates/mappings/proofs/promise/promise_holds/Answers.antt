@@ -10,25 +10,4 @@ use Rattle.mappings.proofs.promise.promise_holds.Needs as need
 
 pub returns : need.returns
 returns c = record {
-  one-owner = one-owner;
-  one-face = one-face;
-  face-used = face-used;
-  face-stays = face-stays;
-  traced = traced;
-  held = held;
-  lasting = lasting;
-  traced-by-tick = traced-by-tick;
-  held-by-tick = held-by-tick;
-  answered = answered;
-  errors-answered = errors-answered;
-  short-book = short-book;
-  two-lines = two-lines;
-  served = served;
-  given-in-need = given-in-need;
-  let-in = let-in;
-  refusals = refusals;
-  inwards-quiet = inwards-quiet;
-  over = over;
-  limits = limits;
-  alone = alone;
-}
+    one-owner = one-owner; one-face = one-face; face-used = face-used; face-stays = face-stays; traced = traced; held = held; lasting = lasting; traced-by-tick = traced-by-tick; held-by-tick = held-by-tick; answered = answered; errors-answered = errors-answered; short-book = short-book; two-lines = two-lines; served = served; given-in-need = given-in-need; let-in = let-in; refusals = refusals; inwards-quiet = inwards-quiet; over = over; limits = limits; alone = alone }
