@@ -22,14 +22,14 @@ pub power-other : (k j : ℕ) → j ≢ k → 2 ^ k / 2 ^ j % 2 ≡ 0
 power-other k j ne =
     ⊎-elim
     (λ (low : j < k).
-        let d = k - j - 1 in
-        let e : k ≡ (d + 1) + j = omega arith in
-        ap (λ n. 2 ^ n / 2 ^ j % 2) e ∙ ap (λ n. n / 2 ^ j % 2) (pow-add 2 (d + 1) j) ∙ ap (λ n. n % 2) (shl-shr (2 ^ (d + 1)) j) ∙ ap (λ n. n % 2) (pow-add 2 d 1) ∙ even (2 ^ d))
+    let d = k - j - 1 in
+    let e : k ≡ (d + 1) + j = omega arith in
+    ap (λ n. 2 ^ n / 2 ^ j % 2) e ∙ ap (λ n. n / 2 ^ j % 2) (pow-add 2 (d + 1) j) ∙ ap (λ n. n % 2) (shl-shr (2 ^ (d + 1)) j) ∙ ap (λ n. n % 2) (pow-add 2 d 1) ∙ even (2 ^ d))
     (λ (high : k ≤ j).
-        let lt : 2 ^ k < 2 ^ j = pow-below k j (omega arith) in
-        let z : 2 ^ k / 2 ^ j < 1 = div-below (2 ^ k) (2 ^ j) 1 (pow-pos j) (omega arith) in
-        let none : 2 ^ k / 2 ^ j ≡ 0 = omega arith in
-        ap (λ n. n % 2) none)
+    let lt : 2 ^ k < 2 ^ j = pow-below k j (omega arith) in
+    let z : 2 ^ k / 2 ^ j < 1 = div-below (2 ^ k) (2 ^ j) 1 (pow-pos j) (omega arith) in
+    let none : 2 ^ k / 2 ^ j ≡ 0 = omega arith in
+    ap (λ n. n % 2) none)
     (cases-lt j k)
   where
     even : (n : ℕ) → n * 2 ^ 1 % 2 ≡ 0
@@ -84,5 +84,6 @@ module _ (ws : List ℕ) (block v : ℕ) (within : block / 64 < length ws) where
           let other : b % 64 ≢ block % 64 = λ m. ne (sym (div-add-mod' b 64) ∙ ap (λ q. q * 64 + b % 64) e ∙ ap (λ r. block / 64 * 64 + r) m ∙ div-add-mod' block 64) in
           ap (λ q. bit (getD (set ws (block / 64) v) q 0) (b % 64)) e ∙ ap (λ w. bit w (b % 64)) (getD-set-same ws (block / 64) v 0 within)
           ∙ same (b % 64) other ∙ ap (λ q. bit (getD ws q 0) (b % 64)) (sym e)
+
       there : (b / 64 ≡ block / 64 → ⊥) → bit (getD (set ws (block / 64) v) (b / 64) 0) (b % 64) ≡ bit (getD ws (b / 64) 0) (b % 64)
       there n = ap (λ w. bit w (b % 64)) (getD-set-other ws (block / 64) (b / 64) v 0 n)

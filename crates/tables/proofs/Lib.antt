@@ -5,4 +5,5 @@ pub mod Fresh
 pub mod Looking
 pub mod Own
 pub mod Remembering
+pub mod Running
 pub mod Slots

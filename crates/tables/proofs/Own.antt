@@ -61,6 +61,7 @@ rows-given xs n b m row within small e all i k =
   where
     old : List ℕ
     old = getD (map blocksIn xs) n []
+
     at : (k < length old) ⊎ (length old ≤ k) → getD (old ++ b ∷ []) k 0 < m
     at (inl low) = subst (λ x. x < m) (sym (getD-append-left old (b ∷ []) 0 k low)) (all n k)
     at (inr high) = subst (λ x. x < m) (sym (getD-append-right old (b ∷ []) (length old) k 0 refl high)) (behind (k - length old))
@@ -68,10 +69,12 @@ rows-given xs n b m row within small e all i k =
         behind : (j : ℕ) → getD (b ∷ []) j 0 < m
         behind zero = small
         behind (suc j) = omega arith
+
     here : i ≡ n → getD (getD (set (map blocksIn xs) n (blocksIn row)) i []) k 0 < m
     here h =
         subst (λ x. getD x k 0 < m) (sym (ap (λ j. getD (set (map blocksIn xs) n (blocksIn row)) j []) h
         ∙ getD-set-same (map blocksIn xs) n (blocksIn row) [] (omega (arith, length-map xs blocksIn)) ∙ e)) (at (cases-lt k (length old)))
+
     there : (i ≡ n → ⊥) → getD (getD (set (map blocksIn xs) n (blocksIn row)) i []) k 0 < m
     there ne = subst (λ x. getD x k 0 < m) (sym (getD-set-other (map blocksIn xs) n i (blocksIn row) [] ne)) (all i k)
 

@@ -106,10 +106,9 @@ module _ (a : ℕ) (xs ys : List ℕ) (i k : ℕ) (R : List ℕ) (long : length 
 
   pub carry-goes : (getD ys i 0 ≡ a → ⊥) →
       (take (i + 1) (set ys i k) ++ take left (getD ys i 0 ∷ without a (drop (i + 1) xs)) ≡ R) × (drop (i + 1) (set ys i k) ≡ drop (i + 1) xs)
-  carry-goes ne =
-      (
-        ap (λ zs. zs ++ take left (getD ys i 0 ∷ without a (drop (i + 1) xs))) (take-more-set ys i k (omega arith))
+  carry-goes ne = (
+    ap (λ zs. zs ++ take left (getD ys i 0 ∷ without a (drop (i + 1) xs))) (take-more-set ys i k (omega arith))
         ∙ append-assoc (take i ys) (k ∷ []) (take left (getD ys i 0 ∷ without a (drop (i + 1) xs)))
         ∙ ap (λ zs. take i ys ++ k ∷ take left zs) (sym (without-later a (getD ys i 0) (drop (i + 1) xs) ne)) ∙ carried,
-        drop-set-lt (i + 1) ys i k (omega arith) ∙ behind,
-      )
+    drop-set-lt (i + 1) ys i k (omega arith) ∙ behind,
+  )

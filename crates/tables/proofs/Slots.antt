@@ -45,6 +45,7 @@ slots-put xs port v low within p = ⊎-elim here there (cases-eq p port)
     here e =
         ap (λ q. slotsOf (set xs (port - lowestPort) v) q) e ∙ cond-true (leb lowestPort port) _ _ (le-leb lowestPort port low)
         ∙ ap slot (getD-set-same xs (port - lowestPort) v None within) ∙ sym (cond-true (eqb p port) (slot v) (slotsOf xs p) (eq-eqb p port e))
+
     there : (p ≡ port → ⊥) → slotsOf (set xs (port - lowestPort) v) p ≡ cond (eqb p port) (slot v) (slotsOf xs p)
     there ne = other ∙ sym (cond-false (eqb p port) (slot v) (slotsOf xs p) (ne-eqb p port ne))
       where

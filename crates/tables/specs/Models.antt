@@ -20,8 +20,13 @@ configOf t = config (t .settings)
 
 abbrev pub model : Table → State
 model t = record {
-    slots = slotsOf (vec-items (t .slots)); further = map blocksIn (vec-items (t .further)); holders = vec-items (t .holders);
-    tick = t .tick; moment = t .moment; over = t .over }
+  slots = slotsOf (vec-items (t .slots));
+  further = map blocksIn (vec-items (t .further));
+  holders = vec-items (t .holders);
+  tick = t .tick;
+  moment = t .moment;
+  over = t .over;
+}
 
 abbrev pub linesOf : Table → List Line
 linesOf t = vec-items (t .lines)
@@ -36,7 +41,13 @@ pub record Did (c : Config) (x : Step) (t : Table) (r : Verdict) : Type 0 where
 -- nothing has happened yet, but for the tick and the count of events
 abbrev pub freshAt : Config → ℕ → ℕ → State
 freshAt c tick moment = record {
-    slots = noMapping; further = replicate (c .subscribers) []; holders = replicate (blocksOf c) None; tick = tick; moment = moment; over = false }
+  slots = noMapping;
+  further = replicate (c .subscribers) [];
+  holders = replicate (blocksOf c) None;
+  tick = tick;
+  moment = moment;
+  over = false;
+}
 
 pub record Began (c : Config) (tick moment : ℕ) (t : Table) : Type 0 where
   pub settings : configOf t ≡ c

@@ -2,5 +2,6 @@
 mod bits;
 mod further;
 mod mapping;
+pub mod runs;
 mod searches;
 pub mod table;

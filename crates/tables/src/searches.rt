@@ -31,12 +31,18 @@ fn passes_by(slot: &Option<Mapping>, sought: &Sought, settings: &Settings) -> bo
         (None, _) => false,
         (Some(_), Sought::Free) => false,
         (Some(_), Sought::Taken) => true,
-        (Some(mapping), Sought::Face { packet, tick }) => mapping.is_live(*tick, settings) && mapping.is_of(packet),
+        (Some(mapping), Sought::Face { packet, tick }) => mapping.is_live(*tick, settings)
+            && mapping.is_of(packet),
     }
 }
 
 // The first port that is as sought in these blocks, which are looked through in this order.
-pub fn find_port(slots: &[Option<Mapping>], blocks: &[u16], sought: &Sought, settings: &Settings) -> Option<u16>
+pub fn find_port(
+    slots: &[Option<Mapping>],
+    blocks: &[u16],
+    sought: &Sought,
+    settings: &Settings,
+) -> Option<u16>
     requires slots { ⌜ length (now slots) ≡ ports ⌝ }
     requires blocks { ⌜ ((k : ℕ) → getD (now blocks) k 0 < blocksOf (config (now settings))) ⌝ }
     ensures { λ r. ⌜ r ≡ first (passesAt (config (now (settings .entry))) (now (sought .entry)) (slotsOf (now (slots .entry)))) (joined (blockPorts (config (now (settings .entry)))) (now (blocks .entry))) ⌝ }

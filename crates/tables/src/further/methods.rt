@@ -18,7 +18,10 @@ impl Further {
     pub fn none() -> Further
         ensures { λ r. ⌜ blocksIn r ≡ [] ⌝ }
     {
-        Further { given: [0; 4], count: 0 }
+        Further {
+            given: [0; 4],
+            count: 0,
+        }
     }
 
     // How many there are.
@@ -32,7 +35,13 @@ impl Further {
     pub fn behind(&self, first: u16) -> [u16; 5]
         ensures { λ r. ⌜ r ≡ first ∷ now (self .entry) .given ⌝ }
     {
-        [first, self.given[0], self.given[1], self.given[2], self.given[3]]
+        [
+            first,
+            self.given[0],
+            self.given[1],
+            self.given[2],
+            self.given[3],
+        ]
     }
 
     // With one more block.
@@ -42,7 +51,10 @@ impl Further {
     {
         let mut given = self.given;
         given[self.count as usize] = block;
-        Further { given, count: self.count + 1 }
+        Further {
+            given,
+            count: self.count + 1,
+        }
     }
 
     // Those of which a mapping has a port.

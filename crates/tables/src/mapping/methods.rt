@@ -97,14 +97,17 @@ impl Mapping {
     pub fn is_kept(&self, tick: u32, settings: &Settings) -> bool
         ensures { λ r. ⌜ r ≡ liveOrResting (config (now (settings .entry))) tick (meaning (now (self .entry))) ⌝ }
     {
-        u64::from(tick) <= u64::from(self.last) + u64::from(settings.life()) + u64::from(settings.rest())
+        u64::from(tick)
+            <= u64::from(self.last) + u64::from(settings.life()) + u64::from(settings.rest())
     }
 
     // Whether it is of this subscriber's protocol and port.
     pub fn is_of(&self, packet: &Outward) -> bool
         ensures { λ r. ⌜ r ≡ isOf (now (packet .entry)) (meaning (now (self .entry))) ⌝ }
     {
-        self.subscriber == packet.subscriber && same(self.protocol, packet.protocol) && self.port == packet.port
+        self.subscriber == packet.subscriber
+            && same(self.protocol, packet.protocol)
+            && self.port == packet.port
     }
 
     pub fn has_protocol(&self, protocol: Protocol) -> bool
@@ -117,7 +120,10 @@ impl Mapping {
     pub fn delivered(&self) -> Verdict
         ensures { λ r. ⌜ r ≡ Verdict.Delivered (now (self .entry) .subscriber) (now (self .entry) .port) ⌝ }
     {
-        Verdict::Delivered { subscriber: self.subscriber, port: self.port }
+        Verdict::Delivered {
+            subscriber: self.subscriber,
+            port: self.port,
+        }
     }
 
     // Whether it sent to this address lately.

@@ -39,7 +39,11 @@ impl Table {
         if self.further[subscriber as usize].count() >= self.settings.further() {
             return None;
         }
-        lowest_out(&self.given, self.settings.subscribers(), self.settings.blocks())
+        lowest_out(
+            &self.given,
+            self.settings.subscribers(),
+            self.settings.blocks(),
+        )
     }
 
     // Whether the mapping at this port remembers the address.
@@ -62,7 +66,13 @@ impl Table {
         if packet.subscriber >= self.settings.subscribers() {
             return Verdict::Refused(Refusal::NoSubscriber);
         }
-        match self.own_port(packet.subscriber, &Sought::Face { packet: *packet, tick: self.tick }) {
+        match self.own_port(
+            packet.subscriber,
+            &Sought::Face {
+                packet: *packet,
+                tick: self.tick,
+            },
+        ) {
             Some(port) if self.remembers_at(port, packet.to) => Verdict::Sent { port },
             _ => Verdict::Refused(Refusal::UnrelatedError),
         }
@@ -81,6 +91,10 @@ impl Table {
         if !mapping.is_live(self.tick, &self.settings) || !mapping.has_protocol(packet.protocol) {
             return Verdict::Refused(missing);
         }
-        if mapping.remembers(packet.from) { mapping.delivered() } else { Verdict::Refused(forgotten) }
+        if mapping.remembers(packet.from) {
+            mapping.delivered()
+        } else {
+            Verdict::Refused(forgotten)
+        }
     }
 }

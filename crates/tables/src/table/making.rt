@@ -40,6 +40,16 @@ impl Table {
         let further = filled(heap, Further::none(), settings.subscribers() as usize)?;
         let holders = filled(heap, None, settings.blocks() as usize)?;
         let lines = Vec::with_capacity(heap, settings.blocks() as usize)?;
-        Ok(Table { settings, slots, further, holders, given: [0; 63], lines, tick, moment, over: false })
+        Ok(Table {
+            settings,
+            slots,
+            further,
+            holders,
+            given: [0; 63],
+            lines,
+            tick,
+            moment,
+            over: false,
+        })
     }
 }

@@ -39,7 +39,11 @@ impl Table {
                 self.only(verdict)
             }
             Event::ErrorComes(packet) => {
-                let verdict = self.arrival(packet, Refusal::UnrelatedError, Refusal::UnrelatedError);
+                let verdict = self.arrival(
+                    packet,
+                    Refusal::UnrelatedError,
+                    Refusal::UnrelatedError,
+                );
                 self.only(verdict)
             }
             Event::Tick if self.tick == u32::MAX => self.end(),

@@ -19,5 +19,5 @@ Inv-loop-block l =
 abbrev pub Inv-loop-at : given.InvT-loop-at
 Inv-loop-at l =
     first (passesAt (config (l .settings)) (l .sought) (slotsOf (l .slots)))
-        (range (1024 + l .at) (l .at-end - l .at) ++ joined (blockPorts (config (l .settings))) (drop (l .block-index + 1) (l .blocks)))
+    (range (1024 + l .at) (l .at-end - l .at) ++ joined (blockPorts (config (l .settings))) (drop (l .block-index + 1) (l .blocks)))
     ≡ first (passesAt (config (l .settings)) (l .sought) (slotsOf (l .slots))) (joined (blockPorts (config (l .settings))) (l .blocks))

@@ -40,18 +40,16 @@ loop-block-again c =
     let before = kept-by used (take i xs) in
     let more = kept-by-more used xs i 0 (c .loop-block-test .taken) in
     elim (c .if-is-used .came) [
-      then-is-used w ↦
-        let grown = ap blocksIn (w .left-is) ∙ w .with-left .ensures in
-        (
-          grown ∙ ap (λ ys. ys ++ x ∷ []) (c .loop-block .inv .0) ∙ ap (λ b. before ++ cond b (x ∷ []) []) (sym (sym (c .is-used .ensures) ∙ w .if-is-used .taken)) ∙ sym more,
-          omega (arith, ap length grown, length-push (blocksIn (c .loop-block .left)) x, c .loop-block .inv .1),
-        )
-    | else-is-used w ↦
-        let same = ap blocksIn (w .left-is) in
-        (
-          same ∙ c .loop-block .inv .0 ∙ sym (append-nil before) ∙ ap (λ b. before ++ cond b (x ∷ []) []) (sym (sym (c .is-used .ensures) ∙ w .if-is-used .left)) ∙ sym more,
-          omega (arith, ap length same, c .loop-block .inv .1),
-        )
+      | then-is-used w ↦
+          let grown = ap blocksIn (w .left-is) ∙ w .with-left .ensures in (
+            grown ∙ ap (λ ys. ys ++ x ∷ []) (c .loop-block .inv .0) ∙ ap (λ b. before ++ cond b (x ∷ []) []) (sym (sym (c .is-used .ensures) ∙ w .if-is-used .taken)) ∙ sym more,
+            omega (arith, ap length grown, length-push (blocksIn (c .loop-block .left)) x, c .loop-block .inv .1),
+          )
+      | else-is-used w ↦
+          let same = ap blocksIn (w .left-is) in (
+            same ∙ c .loop-block .inv .0 ∙ sym (append-nil before) ∙ ap (λ b. before ++ cond b (x ∷ []) []) (sym (sym (c .is-used .ensures) ∙ w .if-is-used .left)) ∙ sym more,
+            omega (arith, ap length same, c .loop-block .inv .1),
+          )
     ]
 
 pub returns : need.returns

@@ -16,17 +16,17 @@ returns c =
     let ys = c .put-first .last .addresses in
     let all : ys ≡ take 16 (a ∷ without a (m .addresses)) = c .put-first .ensures ∙ ap (λ n. take n (a ∷ without a (m .addresses))) long in
     let front : take (c .if-count-lt16 .count) ys ≡ take 16 (a ∷ without a (take (m .count) (m .addresses))) =
-        ap (λ zs. take (c .if-count-lt16 .count) zs) all ∙
-        elim (c .if-count-lt16 .came) [
-          then-count-lt16·then-not-remembers w ↦
-            ap (λ n. take n (take 16 (a ∷ without a (m .addresses)))) (w .count-is)
-            ∙ noted-new a (m .count) (m .addresses) (w .if-count-lt16 .taken) (sym (w .remembers .ensures) ∙ w .if-not-remembers .taken)
-        | else-count-lt16 w ↦
-            ap (λ n. take n (take 16 (a ∷ without a (m .addresses)))) (w .count-is)
-            ∙ elim (w .else-count-lt16 .came) [
-                else-count-lt16·by·then-count-lt16·else-not-remembers v ↦
-                  noted-known a (m .count) (m .addresses) (m .few) (sym (v .remembers .ensures) ∙ v .if-not-remembers .left)
-              | else-count-lt16·by·else-count-lt16 v ↦ noted-full a (m .count) (m .addresses) long (v .if-count-lt16 .left)
-              ]
-        ] in
+    ap (λ zs. take (c .if-count-lt16 .count) zs) all ∙
+    elim (c .if-count-lt16 .came) [
+      | then-count-lt16·then-not-remembers w ↦
+          ap (λ n. take n (take 16 (a ∷ without a (m .addresses)))) (w .count-is)
+          ∙ noted-new a (m .count) (m .addresses) (w .if-count-lt16 .taken) (sym (w .remembers .ensures) ∙ w .if-not-remembers .taken)
+      | else-count-lt16 w ↦
+          ap (λ n. take n (take 16 (a ∷ without a (m .addresses)))) (w .count-is)
+          ∙ elim (w .else-count-lt16 .came) [
+            | else-count-lt16·by·then-count-lt16·else-not-remembers v ↦
+                noted-known a (m .count) (m .addresses) (m .few) (sym (v .remembers .ensures) ∙ v .if-not-remembers .left)
+            | else-count-lt16·by·else-count-lt16 v ↦ noted-full a (m .count) (m .addresses) long (v .if-count-lt16 .left)
+          ]
+    ] in
     ap (λ zs. record { subscriber = m .subscriber; protocol = m .protocol; port = m .port; last = c .args .tick; remembered = zs }) front

@@ -33,8 +33,7 @@ ghost-result c =
     let further = c .in-Continue-further .further in
     let holders = c .in-Continue-holders .holders in
     let lists : map blocksIn (vec-items further) ≡ replicate (c .subscribers .result) [] =
-        ap (map blocksIn) (c .in-Continue-further .ensures tt) ∙ map-replicate blocksIn (c .subscribers .result) (c .none .result) [] (c .none .ensures) in
-    (
+    ap (map blocksIn) (c .in-Continue-further .ensures tt) ∙ map-replicate blocksIn (c .subscribers .result) (c .none .result) [] (c .none .ensures) in (
       slots .ok .0 ∙ ap length (c .in-Continue-slots .ensures tt) ∙ length-replicate {A = Option Mapping} 64512 None,
       (
         further .ok .0 ∙ ap length (c .in-Continue-further .ensures tt) ∙ length-replicate (c .subscribers .result) (c .none .result) ∙ c .subscribers .ensures,
@@ -57,11 +56,17 @@ returns c =
     let s = c .args .settings in
     let slots : (p : ℕ) → _ = λ p. ap (λ xs. Rattle.tables.specs.Rows.slotsOf xs p) (c .in-Continue-slots .ensures tt) ∙ no-slot 64512 p in
     let further = ap (map blocksIn) (c .in-Continue-further .ensures tt) ∙ map-replicate blocksIn (c .subscribers .result) (c .none .result) [] (c .none .ensures)
-        ∙ ap (λ n. replicate n []) (c .subscribers .ensures) in
+    ∙ ap (λ n. replicate n []) (c .subscribers .ensures) in
     let holders = c .in-Continue-holders .ensures tt ∙ ap (λ n. replicate n None) (c .blocks-2 .ensures) in
     record {
       settings = refl;
       state = λ i. record {
-        slots = λ p. slots p i; further = further i; holders = holders i; tick = c .args .tick; moment = c .args .moment; over = mathlib.Core.Bool.false };
+        slots = λ p. slots p i;
+        further = further i;
+        holders = holders i;
+        tick = c .args .tick;
+        moment = c .args .moment;
+        over = mathlib.Core.Bool.false;
+      };
       lines = c .in-Continue-lines .ensures tt .made .0;
     }

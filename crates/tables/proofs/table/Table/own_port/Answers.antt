@@ -38,8 +38,8 @@ returns c =
     let part = own-part n (c .count-count .result) (c .behind-own .result) f (c .behind-own .ensures) (c .count-count .ensures) in
     let test = passesAt (configOf t) (c .args .sought .now) in
     let is = c .find-port .ensures
-        ∙ ap (λ zs. first (test (slotsOf zs)) (joined (blockPorts (configOf t)) (take ((1 + c .count-count .result) - 0) (c .behind-own .result)))) (c .deref .ensures .value)
-        ∙ ap (λ xs. first (test (slotsOf (vec-items (t .slots)))) (joined (blockPorts (configOf t)) xs)) (part ∙ ap (λ xs. n ∷ xs) (sym row)) in
+    ∙ ap (λ zs. first (test (slotsOf zs)) (joined (blockPorts (configOf t)) (take ((1 + c .count-count .result) - 0) (c .behind-own .result)))) (c .deref .ensures .value)
+    ∙ ap (λ xs. first (test (slotsOf (vec-items (t .slots)))) (joined (blockPorts (configOf t)) xs)) (part ∙ ap (λ xs. n ∷ xs) (sym row)) in
     record {
       is = is;
       within = λ p e. port-block (configOf t) (good (configOf t) (t .settings .limits)) (model t) n p (first-some (test (slotsOf (vec-items (t .slots)))) _ p (sym is ∙ e) .0) .0;
