@@ -70,9 +70,10 @@ fn with_names(heap: Global, mut text: String, names: &[u16]) -> Result<String, A
 pub fn names_line(heap: Global, names: &[u16]) -> Result<String, AllocError>
     ensures { λ r. ⌜ made r (λ s. string-bytes s ≡ namesText (now (names .entry))) ⌝ }
 {
-    let [first, ..] = names else {
+    if names.is_empty() {
         return String::from_str(heap, "nobody");
-    };
+    }
+    let first = names[0];
     let text = format!(heap, "{first}")?;
     with_names(heap, text, &names[1..])
 }
