@@ -78,14 +78,16 @@ tells-went c w s hops e bs (tidings.nothing r) o p a v = clash (cc)
 tells-went c w s hops e bs (tidings.goes n g read its) o p a v =
     let same : record { subscriber = n; protocol = g .protocol; port = g .source .port; to = g .destination .address } ≡ o = cc in
     let number : n ≡ o .subscriber = ap (λ (x : Outward). x .subscriber) same in
-    let whose : subscriberAt c (g .source .address) ≡ Some (o .subscriber) = its ∙ ap Some number in
-    (g, record {
-      sent = sent-out c s bs (o .subscriber) g read whose e p v;
-      home = one-subscriber c w .1 (o .subscriber) (g .source .address) whose;
-      port = ap (λ (x : Outward). x .port) same;
-      protocol = ap (λ (x : Outward). x .protocol) same;
-      to = ap (λ (x : Outward). x .to) same;
-    })
+    let whose : subscriberAt c (g .source .address) ≡ Some (o .subscriber) = its ∙ ap Some number in (
+      g,
+      record {
+        sent = sent-out c s bs (o .subscriber) g read whose e p v;
+        home = one-subscriber c w .1 (o .subscriber) (g .source .address) whose;
+        port = ap (λ (x : Outward). x .port) same;
+        protocol = ap (λ (x : Outward). x .protocol) same;
+        to = ap (λ (x : Outward). x .to) same;
+      },
+    )
 tells-went c w s hops e bs (tidings.comes f read ours) o p a v = clash (cc)
 tells-went c w s hops e bs tidings.ticks o p a v = clash (cc)
 
@@ -113,16 +115,26 @@ answer c w is s hops e bs f read ours n q v z j before =
     let found = passage-of c is z j in
     let y : Passage = found .0 in
     let went = made-went c w y (all-made c (fresh c) is y (found .1)) o (f .destination .port)
-        (ap (λ (x : Occurrence). x .event) (found .2) ∙ before .went) (ap (λ (x : Occurrence). x .verdict) (found .2) ∙ before .port) in
+    (ap (λ (x : Occurrence). x .event) (found .2) ∙ before .went) (ap (λ (x : Occurrence). x .verdict) (found .2) ∙ before .port) in
     let g : Facts = went .0 in
-    let a : ℕ = g .source .address in
-    (n, a, q, hops, f, brought-in c s hops e bs n a q f read ours (went .1 .home) v, y, g, found .1, record {
-      before = subst (λ (x : Occurrence). x .moment < s .moment) (sym (found .2)) (before .earlier);
-      sent = went .1 .sent;
-      from = ap {B = Endpoint} (λ k. record { address = a; port = k }) (went .1 .port);
-      protocol = went .1 .protocol;
-      to = went .1 .to;
-    })
+    let a : ℕ = g .source .address in (
+      n,
+      a,
+      q,
+      hops,
+      f,
+      brought-in c s hops e bs n a q f read ours (went .1 .home) v,
+      y,
+      g,
+      found .1,
+      record {
+        before = subst (λ (x : Occurrence). x .moment < s .moment) (sym (found .2)) (before .earlier);
+        sent = went .1 .sent;
+        from = ap {B = Endpoint} (λ k. record { address = a; port = k }) (went .1 .port);
+        protocol = went .1 .protocol;
+        to = went .1 .to;
+      },
+    )
 
 made-answered : (c : Config) → withinLimits c ≡ true → (is : List Item) (s : State) (hops : ℕ) (e : Event) (bs : List ℕ) → Tells c hops bs e →
     List·Memᴰ (passage c s hops e bs .occurrence) (run c (events c is) .transcript) → (n q : ℕ) → step c e s .verdict ≡ verdict.Delivered n q → Answer c is (passage c s hops e bs)

@@ -79,11 +79,16 @@ turned-once c s side bs o =
     let left : x .left ≡ sent 1 (f .protocol) Source (face c p) bs =
     ap (λ y. leftBy c 1 y (step c e s .verdict) bs) (known .1) ∙ ap (λ y. rewritten c 1 f y bs) (t .2) in
     let read : readOf (x .left) ≡ Ok (reading.Packet (relocated 1 Source (face c p) f)) = ap readOf left ∙ read-again bs f 1 Source (face c p) (known .1) in
-    let y : Passage = passage c (step c e s .state) 0 (returnOf c (x .left)) (x .left) in
-    (y, ap (λ k. x ∷ returning c (step c e s .state) (x .left) k) o, f, p, record {
-      came = known .1;
-      went = t .2;
-      same = refl;
-      event = back-event c (x .left) f p read ours;
-      left = λ n q d. back-left c (x .left) f p read (y .occurrence .verdict) n q d;
-    })
+    let y : Passage = passage c (step c e s .state) 0 (returnOf c (x .left)) (x .left) in (
+      y,
+      ap (λ k. x ∷ returning c (step c e s .state) (x .left) k) o,
+      f,
+      p,
+      record {
+        came = known .1;
+        went = t .2;
+        same = refl;
+        event = back-event c (x .left) f p read ours;
+        left = λ n q d. back-left c (x .left) f p read (y .occurrence .verdict) n q d;
+      },
+    )

@@ -66,8 +66,11 @@ pub record Passage : Type 0 where
 
 abbrev pub passage : Config → State → ℕ → Event → List ℕ → Passage
 passage c s hops e bs = record {
-    occurrence = occurrence s e (step c e s .verdict); came = bs;
-    left = leftBy c hops (readOf bs) (step c e s .verdict) bs; outcome = outcomeOf (isToUs c (readOf bs)) (step c e s .verdict) }
+  occurrence = occurrence s e (step c e s .verdict);
+  came = bs;
+  left = leftBy c hops (readOf bs) (step c e s .verdict) bs;
+  outcome = outcomeOf (isToUs c (readOf bs)) (step c e s .verdict);
+}
 
 -- a packet that is turned comes in as a second event
 abbrev pub returning : Config → State → List ℕ → Outcome → List Passage

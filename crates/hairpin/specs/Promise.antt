@@ -96,3 +96,11 @@ TurnedOnce =
     (c : Config) (s : State) (side : Side) (bs : List ℕ) → passage c s 1 (eventOf c side bs) bs .outcome ≡ Turned →
     (y : Passage) × (passagesOf c s (Packet side bs) ≡ passage c s 1 (eventOf c side bs) bs ∷ y ∷ [])
     × (f : Facts) × (p : ℕ) × ComesBack c (passage c s 1 (eventOf c side bs) bs) y f p
+
+-- All of it together.
+pub record Main : Type 0 where
+  pub run-of-events : RunOfEvents
+  pub traced : Traced
+  pub answered : Answered
+  pub untouched : Untouched
+  pub turned-once : TurnedOnce

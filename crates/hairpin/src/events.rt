@@ -1,6 +1,6 @@
 // From what was read of a packet to the event that it makes.
 ghost use Rattle.blocks.specs.Settings.{config};
-ghost use Rattle.hairpin.specs.Events.{arriving, fromSubscriber, inward, outward, toAddress};
+ghost use Rattle.hairpin.specs.Events.{accepted, arriving, fromSubscriber, inward, outward, toAddress};
 ghost use mathlib.Core.Path.{_≡_};
 use blocks::refusal::Refusal;
 use blocks::settings::Settings;
@@ -11,8 +11,27 @@ use packets::facts::Facts;
 use packets::facts::Reading;
 use records::record::Side;
 
-// What was read of a packet from this side, as an event.
-pub fn arrival(settings: &Settings, side: Side, reading: Reading) -> Event
+// The event of a packet from this side, of which this was read.
+pub fn event(settings: &Settings, side: Side, reading: Result<Reading, Refusal>) -> Event
+    ensures { λ r. ⌜ r ≡ accepted (arriving (config (now (settings .entry))) side) reading ⌝ }
+{
+    match reading {
+        Ok(reading) => arrival(settings, side, reading),
+        Err(cause) => Event::Unreadable(cause),
+    }
+}
+
+// The event of a packet that comes in right after it went out, and of which this was read.
+pub fn return_event(settings: &Settings, reading: Result<Reading, Refusal>) -> Event
+    ensures { λ r. ⌜ r ≡ accepted (inward (config (now (settings .entry)))) reading ⌝ }
+{
+    match reading {
+        Ok(reading) => coming_in(settings, reading),
+        Err(cause) => Event::Unreadable(cause),
+    }
+}
+
+fn arrival(settings: &Settings, side: Side, reading: Reading) -> Event
     ensures { λ r. ⌜ r ≡ arriving (config (now (settings .entry))) side reading ⌝ }
 {
     match side {
@@ -51,7 +70,7 @@ fn going_out(subscriber: u16, reading: Reading) -> Event
 }
 
 // What comes to our external address, whatever its time to live.
-pub fn coming_in(settings: &Settings, reading: Reading) -> Event
+fn coming_in(settings: &Settings, reading: Reading) -> Event
     ensures { λ r. ⌜ r ≡ inward (config (now (settings .entry))) reading ⌝ }
 {
     match reading {

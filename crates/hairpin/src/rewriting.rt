@@ -56,11 +56,17 @@ fn rewrite(settings: &Settings, bytes: &mut [u8], hops: u8, facts: Facts, verdic
 {
     match verdict {
         Verdict::Sent { port } => {
-            let external = Endpoint { address: settings.external(), port };
+            let external = Endpoint {
+                address: settings.external(),
+                port,
+            };
             write_out(bytes, facts, hops, external);
         }
         Verdict::Delivered { subscriber, port } => {
-            let internal = Endpoint { address: home(settings, subscriber), port };
+            let internal = Endpoint {
+                address: home(settings, subscriber),
+                port,
+            };
             write_in(bytes, facts, hops, internal);
         }
         Verdict::Refused(_) | Verdict::Ticked => {}
@@ -68,7 +74,13 @@ fn rewrite(settings: &Settings, bytes: &mut [u8], hops: u8, facts: Facts, verdic
 }
 
 // Leaves of the packet what its verdict wants; `read` is what was read of it.
-pub fn leave(settings: &Settings, bytes: &mut [u8], hops: u8, read: Result<Reading, Refusal>, verdict: Verdict)
+pub fn leave(
+    settings: &Settings,
+    bytes: &mut [u8],
+    hops: u8,
+    read: Result<Reading, Refusal>,
+    verdict: Verdict,
+)
     requires { ⌜ readOf (now bytes) ≡ read ⌝ }
     ensures { λ _. ⌜ now (bytes .exit) ≡ leftBy (config (now (settings .entry))) hops read verdict (now (bytes .entry)) ⌝ }
 {

@@ -15,6 +15,7 @@ use crate::mapping::Mapping;
 use blocks::settings::Settings;
 use mappings::line::Line;
 
+mod asking;
 mod finding;
 mod making;
 mod stepping;

@@ -22,6 +22,10 @@ hexText (b ∷ bs) = hexDigit (b / 16) ∷ hexDigit (b % 16) ∷ hexText bs
 abbrev pub refusedText : ℕ → Refusal → List ℕ
 refusedText moment r = decimal moment ++ (codes " refused " ++ decimal (numberOf r))
 
+-- a packet that leaves at a moment, with the way that it takes
+abbrev pub packetText : ℕ → List ℕ → List ℕ → List ℕ
+packetText moment way bytes = decimal moment ++ (codes " " ++ (way ++ (codes " " ++ hexText bytes)))
+
 -- the end of a run: the count of events, the tick, and how many lines the book got
 abbrev pub endText : ℕ → ℕ → ℕ → List ℕ
 endText events tick lines = codes "events " ++ (decimal events ++ (codes " tick " ++ (decimal tick ++ (codes " lines " ++ decimal lines))))
@@ -30,6 +34,20 @@ endText events tick lines = codes "events " ++ (decimal events ++ (codes " tick 
 abbrev pub holderText : Option ℕ → List ℕ
 holderText None = codes "nobody"
 holderText (Some n) = decimal n
+
+-- where only a damaged book could tell
+abbrev pub unknownText : Refusal → List ℕ
+unknownText r = codes "fault " ++ decimal (numberOf r)
+
+-- more names, each behind a space
+abbrev pub moreText : List ℕ → List ℕ
+moreText [] = []
+moreText (n ∷ ns) = (codes " " ++ decimal n) ++ moreText ns
+
+-- all that had a port, in order, with spaces between
+abbrev pub namesText : List ℕ → List ℕ
+namesText [] = codes "nobody"
+namesText (n ∷ ns) = decimal n ++ moreText ns
 
 -- the most further blocks given at one time, and to how many subscribers
 abbrev pub countText : ℕ → ℕ → List ℕ

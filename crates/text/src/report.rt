@@ -2,7 +2,8 @@
 ghost use Prim.Native.Nat.{_<_};
 ghost use Rattle.std.specs.Of.String.{string-bytes};
 ghost use Rattle.std.specs.Vec.{made};
-ghost use Rattle.text.specs.Reports.{countText, endText, faultText, hexDigit, hexText, holderText, refusedText};
+ghost use Rattle.text.specs.Reports.{countText, endText, faultText, hexDigit, hexText, holderText, moreText, namesText, packetText, refusedText, unknownText};
+ghost use mathlib.Core.List.{_++_};
 ghost use mathlib.Core.Path.{_≡_};
 use blocks::refusal::Refusal;
 use std::alloc::AllocError;
@@ -14,6 +15,19 @@ pub fn refused_line(heap: Global, moment: u64, cause: Refusal) -> Result<String,
 {
     let number = cause.number();
     format!(heap, "{moment} refused {number}")
+}
+
+// A packet that leaves: `out`, `in` or `turned`, and all its bytes.
+pub fn packet_line(
+    heap: Global,
+    moment: u64,
+    way: &str,
+    packet: &[u8],
+) -> Result<String, AllocError>
+    ensures { λ r. ⌜ made r (λ s. string-bytes s ≡ packetText moment (now (way .entry)) (now (packet .entry))) ⌝ }
+{
+    let digits = hex(heap, packet)?;
+    format!(heap, "{moment} {way} {digits}")
 }
 
 // The last line of a run.
@@ -33,8 +47,39 @@ pub fn holder_line(heap: Global, holder: Option<u16>) -> Result<String, AllocErr
     }
 }
 
+// The cause's number, in place of an answer that only a damaged book could give.
+pub fn unknown_line(heap: Global, cause: Refusal) -> Result<String, AllocError>
+    ensures { λ r. ⌜ made r (λ s. string-bytes s ≡ unknownText cause) ⌝ }
+{
+    let number = cause.number();
+    format!(heap, "fault {number}")
+}
+
+// More names behind a text, each with a space before it.
+fn with_names(heap: Global, mut text: String, names: &[u16]) -> Result<String, AllocError>
+    ensures { λ r. ⌜ made r (λ s. string-bytes s ≡ string-bytes text ++ moreText (now (names .entry))) ⌝ }
+{
+    for name in names {
+        let more = format!(heap, " {name}")?;
+        text.push_str(more.as_str())?;
+    }
+    Ok(text)
+}
+
+// All that had a port, in order, with spaces between; `nobody` for none.
+pub fn names_line(heap: Global, names: &[u16]) -> Result<String, AllocError>
+    ensures { λ r. ⌜ made r (λ s. string-bytes s ≡ namesText (now (names .entry))) ⌝ }
+{
+    if names.is_empty() {
+        return String::from_str(heap, "nobody");
+    }
+    let first = names[0];
+    let text = format!(heap, "{first}")?;
+    with_names(heap, text, &names[1..])
+}
+
 // The most further blocks given at one time, and to how many subscribers.
-pub fn count_line(heap: Global, blocks: u16, subscribers: u16) -> Result<String, AllocError>
+pub fn count_line(heap: Global, blocks: usize, subscribers: usize) -> Result<String, AllocError>
     ensures { λ r. ⌜ made r (λ s. string-bytes s ≡ countText blocks subscribers) ⌝ }
 {
     format!(heap, "blocks {blocks} pitches {subscribers}")
