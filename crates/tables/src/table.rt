@@ -17,6 +17,7 @@ use mappings::line::Line;
 
 mod finding;
 mod making;
+mod reading;
 mod stepping;
 mod ticking;
 mod writing;
