@@ -18,6 +18,7 @@ use mappings::line::Line;
 mod asking;
 mod finding;
 mod making;
+mod reading;
 mod stepping;
 mod ticking;
 mod writing;

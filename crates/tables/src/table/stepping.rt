@@ -7,7 +7,6 @@ use super::Table;
 use blocks::refusal::Refusal;
 use mappings::event::Event;
 use mappings::event::Verdict;
-use mappings::line::Line;
 
 impl Table {
     // The run is over: nothing else changes, not even the count of events.
@@ -49,26 +48,5 @@ impl Table {
             Event::Tick if self.tick == u32::MAX => self.end(),
             Event::Tick => self.ticks(),
         }
-    }
-
-    // How many events came before.
-    pub fn moment(&self) -> u64
-        ensures { λ r. ⌜ r ≡ model (now (self .entry)) .moment ⌝ }
-    {
-        self.moment
-    }
-
-    // The tick that it is.
-    pub fn tick(&self) -> u32
-        ensures { λ r. ⌜ r ≡ model (now (self .entry)) .tick ⌝ }
-    {
-        self.tick
-    }
-
-    // The lines that the last event wrote into the book.
-    pub fn lines(&self) -> &[Line]
-        ensures { λ r. ⌜ now r ≡ linesOf (now (self .entry)) ⌝ }
-    {
-        &self.lines
     }
 }
