@@ -36,7 +36,15 @@ const CASES: [(u32, u32, u16, u16, u8, u16, u16, u8); 27] = [
 #[test]
 fn each_limit() -> Result<(), Fail> {
     for (external, internal, subscribers, size, further, life, rest, expected) in CASES {
-        let number = match Settings::new(external, internal, subscribers, size, further, life, rest) {
+        let number = match Settings::new(
+            external,
+            internal,
+            subscribers,
+            size,
+            further,
+            life,
+            rest,
+        ) {
             Ok(_) => 0,
             Err(cause) => cause.number(),
         };
@@ -46,7 +54,26 @@ fn each_limit() -> Result<(), Fail> {
 }
 
 // 203.0.113.1, 10.0.0.0, 8 subscribers, 16 ports, 4 further blocks, 120 and 60 ticks, and one byte too many
-const BYTES: [u8; 18] = [203, 0, 113, 1, 10, 0, 0, 0, 0, 8, 0, 16, 4, 0, 120, 0, 60, 0];
+const BYTES: [u8; 18] = [
+    203,
+    0,
+    113,
+    1,
+    10,
+    0,
+    0,
+    0,
+    0,
+    8,
+    0,
+    16,
+    4,
+    0,
+    120,
+    0,
+    60,
+    0,
+];
 
 #[test]
 fn each_length() -> Result<(), Fail> {

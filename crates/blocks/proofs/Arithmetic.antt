@@ -26,8 +26,7 @@ module _ (c : Config) (l : Limits c) where
       let some : 0 < c .size = omega (arith, l .smallest) in
       let block : blockOf c p < blocksOf c = div-below (p - lowestPort) (c .size) (blocksOf c) some (omega (arith, l .whole)) in
       let inside : offsetOf c p < c .size = mod-below (p - lowestPort) (c .size) some in
-      let back : portOf c (blockOf c p) (offsetOf c p) ≡ p = omega (arith, div-add-mod' (p - lowestPort) (c .size)) in
-      (
+      let back : portOf c (blockOf c p) (offsetOf c p) ≡ p = omega (arith, div-add-mod' (p - lowestPort) (c .size)) in (
         record { block = blockOf c p; offset = offsetOf c p },
         cond-true (leb lowestPort p) _ _ (le-leb lowestPort p low),
         cond-true _ _ _ (and-from _ _ (lt-ltb _ _ block) (lt-ltb _ _ inside)) ∙ ap Some back,
@@ -41,8 +40,7 @@ module _ (c : Config) (l : Limits c) where
       let small = port-small c l _ (q .block) (q .offset) refl (ltb-true (q .block) (blocksOf c) (parts .0)) inside in
       let from : p - lowestPort ≡ q .block * c .size + q .offset = omega (arith, got .1) in
       let block : blockOf c p ≡ q .block = ap (λ n. n / c .size) from ∙ div-mul-add (q .block) (c .size) (q .offset) inside in
-      let offset : offsetOf c p ≡ q .offset = ap (λ n. n % c .size) from ∙ mod-mul-add (q .block) (c .size) (q .offset) inside in
-      (
+      let offset : offsetOf c p ≡ q .offset = ap (λ n. n % c .size) from ∙ mod-mul-add (q .block) (c .size) (q .offset) inside in (
         cond-true (leb lowestPort p) _ _ (le-leb lowestPort p (omega (arith, got .1))) ∙ (λ i. Some (record { block = block i; offset = offset i })),
         omega (arith, got .1),
       )

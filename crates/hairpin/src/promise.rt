@@ -25,5 +25,4 @@ pub fn turned_packets_come_in()
 // All of them together.
 pub fn promise_holds()
     ensures { λ _. ⌜ Main ⌝ }
-{
-}
+{}

@@ -4,5 +4,4 @@ ghost use Rattle.records.specs.Inputs.{ReadToTheEnd};
 // Any bytes are read, record by record, to their end or to the first damaged record.
 pub fn read_to_the_end()
     ensures { λ _. ⌜ ReadToTheEnd ⌝ }
-{
-}
+{}

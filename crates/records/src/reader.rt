@@ -36,7 +36,13 @@ fn packet<'a>(rest: &'a [u8]) -> Front<'a>
     if length > rest.len() - 4 {
         return Front::Fault;
     }
-    Front::Found(Record::Packet { side, bytes: &rest[4..4 + length] }, 4 + length)
+    Front::Found(
+        Record::Packet {
+            side,
+            bytes: &rest[4..4 + length],
+        },
+        4 + length,
+    )
 }
 
 fn record_in<'a>(rest: &'a [u8]) -> Front<'a>
@@ -45,7 +51,11 @@ fn record_in<'a>(rest: &'a [u8]) -> Front<'a>
     let [kind, ..] = rest else {
         return Front::End;
     };
-    if *kind == 2 { Front::Found(Record::Tick, 1) } else { packet(rest) }
+    if *kind == 2 {
+        Front::Found(Record::Tick, 1)
+    } else {
+        packet(rest)
+    }
 }
 
 #[derive(Drop)]

@@ -38,7 +38,15 @@ impl Settings {
         if end > 0x1_0000_0000 || (from <= outside && outside < end) {
             return Err(Refusal::BadSettings);
         }
-        Ok(Settings { external, internal, subscribers, size, further, life, rest })
+        Ok(Settings {
+            external,
+            internal,
+            subscribers,
+            size,
+            further,
+            life,
+            rest,
+        })
     }
 
     // Settings from their 17 bytes: `Malformed` for another length, `BadSettings` for a value out of its range.

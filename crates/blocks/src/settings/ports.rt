@@ -33,7 +33,10 @@ impl Settings {
         ensures { λ r. ⌜ r ≡ placeOf (config (now (self .entry))) port ⌝ }
     {
         let from_lowest = port.checked_sub(1024)?;
-        Some(Place { block: from_lowest / self.size, offset: from_lowest % self.size })
+        Some(Place {
+            block: from_lowest / self.size,
+            offset: from_lowest % self.size,
+        })
     }
 
     // The port that lies there, if there is such a place.
@@ -53,7 +56,11 @@ impl Settings {
     pub fn first_holder(&self, block: u16) -> Option<u16>
         ensures { λ r. ⌜ r ≡ firstHolder (config (now (self .entry))) block ⌝ }
     {
-        if block < self.subscribers { Some(block) } else { None }
+        if block < self.subscribers {
+            Some(block)
+        } else {
+            None
+        }
     }
 
     // Whether this is a block that is given to subscribers who need more than their first.
@@ -67,7 +74,11 @@ impl Settings {
     pub fn address(&self, subscriber: u16) -> Option<u32>
         ensures { λ r. ⌜ r ≡ addressOf (config (now (self .entry))) subscriber ⌝ }
     {
-        if subscriber < self.subscribers { Some(self.internal + u32::from(subscriber)) } else { None }
+        if subscriber < self.subscribers {
+            Some(self.internal + u32::from(subscriber))
+        } else {
+            None
+        }
     }
 
     // The subscriber whose internal address this is.
@@ -75,6 +86,10 @@ impl Settings {
         ensures { λ r. ⌜ r ≡ subscriberAt (config (now (self .entry))) address ⌝ }
     {
         let number = address.checked_sub(self.internal)?;
-        if number < u32::from(self.subscribers) { Some(number as u16) } else { None }
+        if number < u32::from(self.subscribers) {
+            Some(number as u16)
+        } else {
+            None
+        }
     }
 }

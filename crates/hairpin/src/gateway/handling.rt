@@ -85,7 +85,13 @@ impl Gateway {
         self.table.tick()
     }
 
-    fn handle(&mut self, reading: Result<Reading, Refusal>, event: Event, hops: u8, bytes: &mut [u8]) -> Outcome
+    fn handle(
+        &mut self,
+        reading: Result<Reading, Refusal>,
+        event: Event,
+        hops: u8,
+        bytes: &mut [u8],
+    ) -> Outcome
         requires { ⌜ readOf (now bytes) ≡ reading ⌝ }
         ensures { λ r. ⌜ Handled (configIn (now (self .entry))) (stateIn (now (self .entry))) hops event (now (bytes .entry)) (now (self .exit)) r (now (bytes .exit)) ⌝ }
     {
