@@ -31,12 +31,14 @@ fn run(rt: &LibcRuntime) -> Result<(), Trouble> {
         None => Ok(()),
         Some(fault) => Err(shell::fault(rt, file.as_str(), fault.cause, fault.byte)),
     };
-    let Some(byte) = malformed else {
-        return read;
-    };
-    match read {
-        Ok(()) | Err(Trouble::Said) => Err(shell::fault(rt, questions.as_str(), Refusal::Malformed, byte)),
-        Err(trouble) => Err(trouble),
+    match malformed {
+        None => read,
+        Some(byte) => match read {
+            Ok(()) => Err(shell::fault(rt, questions.as_str(), Refusal::Malformed, byte)),
+            Err(Trouble::Said) => Err(shell::fault(rt, questions.as_str(), Refusal::Malformed, byte)),
+            Err(Trouble::Memory) => Err(Trouble::Memory),
+            Err(Trouble::Output(why)) => Err(Trouble::Output(why)),
+        },
     }
 }
 
