@@ -31,27 +31,19 @@ fn run(rt: &LibcRuntime) -> Result<(), Trouble> {
         None => Ok(()),
         Some(fault) => Err(shell::fault(rt, file.as_str(), fault.cause, fault.byte)),
     };
-    let Some(byte) = malformed else {
-        return read;
-    };
-    match read {
-        Ok(()) | Err(Trouble::Said) => Err(shell::fault(
-            rt,
-            questions.as_str(),
-            Refusal::Malformed,
-            byte,
-        )),
-        Err(trouble) => Err(trouble),
+    match malformed {
+        None => read,
+        Some(byte) => match read {
+            Ok(()) => Err(shell::fault(rt, questions.as_str(), Refusal::Malformed, byte)),
+            Err(Trouble::Said) => Err(shell::fault(rt, questions.as_str(), Refusal::Malformed, byte)),
+            Err(Trouble::Memory) => Err(Trouble::Memory),
+            Err(Trouble::Output(why)) => Err(Trouble::Output(why)),
+        },
     }
 }
 
 // An answer for each question; where one is malformed, the byte at which its line begins.
-fn answer_all(
-    rt: &LibcRuntime,
-    settings: &Settings,
-    book: &Book,
-    lines: &mut Lines,
-) -> Result<Option<usize>, Trouble> {
+fn answer_all(rt: &LibcRuntime, settings: &Settings, book: &Book, lines: &mut Lines) -> Result<Option<usize>, Trouble> {
     loop {
         let begin = lines.at();
         let Some(line) = lines.next() else {
@@ -64,30 +56,14 @@ fn answer_all(
     }
 }
 
-fn answer(
-    rt: &LibcRuntime,
-    settings: &Settings,
-    book: &Book,
-    question: Question,
-) -> Result<String, Trouble> {
+fn answer(rt: &LibcRuntime, settings: &Settings, book: &Book, question: Question) -> Result<String, Trouble> {
     let heap = rt.alloc();
     match question.when {
-        When::Moment(moment) => match book.who_at(
-            settings,
-            question.address,
-            question.port,
-            moment,
-        ) {
+        When::Moment(moment) => match book.who_at(settings, question.address, question.port, moment) {
             Ok(holder) => Ok(holder_line(heap, holder)?),
             Err(cause) => Ok(unknown_line(heap, cause)?),
         },
-        When::Tick(tick) => match book.who_in(
-            heap,
-            settings,
-            question.address,
-            question.port,
-            tick,
-        )? {
+        When::Tick(tick) => match book.who_in(heap, settings, question.address, question.port, tick)? {
             Ok(names) => Ok(names_line(heap, names.as_slice())?),
             Err(cause) => Ok(unknown_line(heap, cause)?),
         },
