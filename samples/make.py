@@ -43,18 +43,26 @@ OURS, SERVER, STRANGER = "203.0.113.1", "198.51.100.7", "192.0.2.9"
 
 settings = address(OURS) + address("10.0.0.0") + struct.pack("!HHBHH", 8, 16, 4, 120, 60)
 records = [
-    packet(INSIDE, udp("10.0.0.2", 5000, SERVER, 53, b"where is the beach?")),
-    packet(OUTSIDE, udp(SERVER, 53, OURS, 1056, b"behind the dunes")),
+    # subscriber 2 asks, and is answered; a stranger is not let in
+    packet(INSIDE, udp("10.0.0.2", 5000, SERVER, 53, b"beach?")),
+    packet(OUTSIDE, udp(SERVER, 53, OURS, 1056, b"dunes")),
+    packet(OUTSIDE, udp(STRANGER, 53, OURS, 1056, b"me too")),
     TICK,
-    packet(OUTSIDE, udp(STRANGER, 53, OURS, 1056, b"let me in")),
-    packet(INSIDE, udp("10.0.0.2", 5001, SERVER, 53, b"and the shop?")),
-    TICK,
+    # subscriber 2 sends to our own address, and so lets in what subscriber 1 sends to its port
+    packet(INSIDE, udp("10.0.0.2", 5000, OURS, 1040, b"one?")),
+    packet(INSIDE, udp("10.0.0.1", 6000, OURS, 1056, b"two!")),
+    # sixteen more ports of subscriber 2: its first block is full, and the last goes by a further one
+    *[packet(INSIDE, udp("10.0.0.2", 5001 + i, SERVER, 53, b"?")) for i in range(16)],
+    # when its life and its rest have passed, the further block is taken back
+    *[TICK] * 181,
 ]
 questions = [
     "203.0.113.1 1056 moment 0",
-    "203.0.113.1 1071 tick 1",
+    "203.0.113.1 1152 moment 22",
+    "203.0.113.1 1152 moment 23",
+    "203.0.113.1 1152 tick 1",
+    "203.0.113.1 1152 moment 204",
     "203.0.113.1 1023 moment 4",
-    "203.0.113.1 2000 moment 4",
     "198.51.100.7 1056 moment 4",
 ]
 
