@@ -11,6 +11,8 @@ counts = collections.Counter()
 wrong = []
 for line in open("crates/gateway/stdout"):
     words = line.split()
+    if words[0] == "events":
+        continue
     counts[" ".join(words[1:3]) if words[1] == "refused" else words[1]] += 1
     if words[1] not in ("out", "in", "turned"):
         continue
