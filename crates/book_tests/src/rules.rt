@@ -11,11 +11,23 @@ use std::alloc::Global;
 use std::test::*;
 
 const fn given(moment: u64, tick: u32, block: u16, subscriber: u16) -> Line {
-    Line { change: Change::Given, moment, tick, block, subscriber }
+    Line {
+        change: Change::Given,
+        moment,
+        tick,
+        block,
+        subscriber,
+    }
 }
 
 const fn taken(moment: u64, tick: u32, block: u16, subscriber: u16) -> Line {
-    Line { change: Change::TakenBack, moment, tick, block, subscriber }
+    Line {
+        change: Change::TakenBack,
+        moment,
+        tick,
+        block,
+        subscriber,
+    }
 }
 
 // The cause at which the reading of these lines stops, and the byte, for eight subscribers with two further blocks each.
@@ -61,7 +73,9 @@ fn givings(rt: LibcRuntime) -> Result<(), Fail> {
     refused(heap, &[first, given(30, 0, 10, 2)], 17).note("not the lowest block")?;
     refused(heap, &[first, given(30, 0, 8, 3)], 17).note("a block that is given")?;
     refused(heap, &[given(30, 0, 8, 8)], 0).note("no subscriber")?;
-    refused(heap, &[first, given(17, 0, 9, 2), given(18, 0, 10, 2)], 34).note("more than it may have")
+    refused(heap, &[first, given(17, 0, 9, 2), given(18, 0, 10, 2)], 34).note(
+        "more than it may have",
+    )
 }
 
 #[test]
@@ -69,14 +83,32 @@ fn takings_back(rt: LibcRuntime) -> Result<(), Fail> {
     let heap = rt.alloc();
     let first = given(16, 0, 8, 2);
     let second = given(17, 0, 9, 3);
-    accepted(heap, &[first, second, taken(900, 181, 8, 2), taken(900, 181, 9, 3)])?;
-    accepted(heap, &[first, second, taken(900, 181, 8, 2), taken(901, 182, 9, 3)])?;
+    accepted(
+        heap,
+        &[first, second, taken(900, 181, 8, 2), taken(900, 181, 9, 3)],
+    )?;
+    accepted(
+        heap,
+        &[first, second, taken(900, 181, 8, 2), taken(901, 182, 9, 3)],
+    )?;
     refused(heap, &[first, taken(900, 181, 8, 3)], 17).note("another's block")?;
     refused(heap, &[first, taken(900, 181, 9, 2)], 17).note("nobody's block")?;
     refused(heap, &[first, taken(900, 180, 8, 2)], 17).note("too early")?;
     refused(heap, &[first, taken(16, 181, 8, 2)], 17).note("the same moment as a giving")?;
     refused(heap, &[first, taken(196, 181, 8, 2)], 17).note("more ticks than events")?;
-    refused(heap, &[first, second, taken(900, 181, 9, 3), taken(900, 181, 8, 2)], 51).note("a lower block")?;
-    refused(heap, &[first, second, taken(900, 181, 8, 2), taken(901, 181, 9, 3)], 51).note("two ticks of one number")?;
-    refused(heap, &[first, second, taken(900, 181, 8, 2), taken(900, 182, 9, 3)], 51).note("one event, two ticks")
+    refused(
+        heap,
+        &[first, second, taken(900, 181, 9, 3), taken(900, 181, 8, 2)],
+        51,
+    ).note("a lower block")?;
+    refused(
+        heap,
+        &[first, second, taken(900, 181, 8, 2), taken(901, 181, 9, 3)],
+        51,
+    ).note("two ticks of one number")?;
+    refused(
+        heap,
+        &[first, second, taken(900, 181, 8, 2), taken(900, 182, 9, 3)],
+        51,
+    ).note("one event, two ticks")
 }

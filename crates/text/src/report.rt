@@ -73,7 +73,12 @@ pub fn count_line(heap: Global, blocks: usize, subscribers: usize) -> Result<Str
 }
 
 // A fault in a file.
-pub fn fault_line(heap: Global, file: &str, cause: Refusal, byte: usize) -> Result<String, AllocError>
+pub fn fault_line(
+    heap: Global,
+    file: &str,
+    cause: Refusal,
+    byte: usize,
+) -> Result<String, AllocError>
     ensures { λ r. ⌜ made r (λ s. string-bytes s ≡ faultText (now (file .entry)) cause byte) ⌝ }
 {
     let number = cause.number();
@@ -84,7 +89,11 @@ fn hex_digit(n: u8) -> char
     requires { ⌜ n < 16 ⌝ }
     ensures { λ r. ⌜ r ≡ hexDigit n ⌝ }
 {
-    if n < 10 { char::from(b'0' + n) } else { char::from(b'a' + (n - 10)) }
+    if n < 10 {
+        char::from(b'0' + n)
+    } else {
+        char::from(b'a' + (n - 10))
+    }
 }
 
 // Bytes in hexadecimal, in lower case.

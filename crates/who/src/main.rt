@@ -35,7 +35,12 @@ fn run(rt: &LibcRuntime) -> Result<(), Trouble> {
         None => read,
         Some(byte) => match read {
             Ok(()) => Err(shell::fault(rt, questions.as_str(), Refusal::Malformed, byte)),
-            Err(Trouble::Said) => Err(shell::fault(rt, questions.as_str(), Refusal::Malformed, byte)),
+            Err(Trouble::Said) => Err(shell::fault(
+                rt,
+                questions.as_str(),
+                Refusal::Malformed,
+                byte,
+            )),
             Err(Trouble::Memory) => Err(Trouble::Memory),
             Err(Trouble::Output(why)) => Err(Trouble::Output(why)),
         },
@@ -43,7 +48,12 @@ fn run(rt: &LibcRuntime) -> Result<(), Trouble> {
 }
 
 // An answer for each question; where one is malformed, the byte at which its line begins.
-fn answer_all(rt: &LibcRuntime, settings: &Settings, book: &Book, lines: &mut Lines) -> Result<Option<usize>, Trouble> {
+fn answer_all(
+    rt: &LibcRuntime,
+    settings: &Settings,
+    book: &Book,
+    lines: &mut Lines,
+) -> Result<Option<usize>, Trouble> {
     loop {
         let begin = lines.at();
         let Some(line) = lines.next() else {
@@ -56,14 +66,30 @@ fn answer_all(rt: &LibcRuntime, settings: &Settings, book: &Book, lines: &mut Li
     }
 }
 
-fn answer(rt: &LibcRuntime, settings: &Settings, book: &Book, question: Question) -> Result<String, Trouble> {
+fn answer(
+    rt: &LibcRuntime,
+    settings: &Settings,
+    book: &Book,
+    question: Question,
+) -> Result<String, Trouble> {
     let heap = rt.alloc();
     match question.when {
-        When::Moment(moment) => match book.who_at(settings, question.address, question.port, moment) {
+        When::Moment(moment) => match book.who_at(
+            settings,
+            question.address,
+            question.port,
+            moment,
+        ) {
             Ok(holder) => Ok(holder_line(heap, holder)?),
             Err(cause) => Ok(unknown_line(heap, cause)?),
         },
-        When::Tick(tick) => match book.who_in(heap, settings, question.address, question.port, tick)? {
+        When::Tick(tick) => match book.who_in(
+            heap,
+            settings,
+            question.address,
+            question.port,
+            tick,
+        )? {
             Ok(names) => Ok(names_line(heap, names.as_slice())?),
             Err(cause) => Ok(unknown_line(heap, cause)?),
         },
