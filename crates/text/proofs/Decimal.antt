@@ -59,6 +59,6 @@ reads-plain {E} bs (Ok x) h p =
     (subst (λ n. n < 2 ^ 64) (sym (got .1)) (got .0 .2), sym same ∙ ap decimal (sym (got .1)))
 reads-plain bs (Err e) h p =
     λ n small same.
-    let digits = subst (Digits 10) (sym same) (digits-decimal own n small) in
-    let worth = ap (value 10) same ∙ value-decimal own n small in
-    parse-plain own 64 bs (Err e) h (p .unsigned) (digits, p .some, subst (λ k. k < 2 ^ 64) (sym worth) small)
+        let digits = subst (Digits 10) (sym same) (digits-decimal own n small) in
+        let worth = ap (value 10) same ∙ value-decimal own n small in
+        parse-plain own 64 bs (Err e) h (p .unsigned) (digits, p .some, subst (λ k. k < 2 ^ 64) (sym worth) small)

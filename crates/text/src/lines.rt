@@ -30,11 +30,7 @@ fn first_line<'a>(text: &'a [u8]) -> Option<(&'a [u8], usize)>
         return None;
     }
     let length = line_length(text);
-    let taken = if length < text.len() {
-        length + 1
-    } else {
-        length
-    };
+    let taken = if length < text.len() { length + 1 } else { length };
     Some((&text[0..length], taken))
 }
 

@@ -66,11 +66,7 @@ impl Question {
         let Some(when) = time(rest) else {
             return None;
         };
-        Some(Question {
-            address,
-            port: port as u16,
-            when,
-        })
+        Some(Question { address, port: port as u16, when })
     }
 
     // The same for a line of bytes, which may be no text at all.

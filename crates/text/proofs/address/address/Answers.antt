@@ -48,11 +48,12 @@ returns c =
     let a = c .in-Some .ensures tt in
     let b = c .in-Some-number-before .ensures tt in
     let d = c .in-Some-number-before-2 .ensures tt in
-    let e = c .in-Some-number .ensures tt in (
+    let e = c .in-Some-number .ensures tt in
+    (
       omega arith,
       a .1
-          ∙ ap (λ xs. decimal (c .in-Some .a) ++ (46 ∷ xs)) (b .1
-          ∙ ap (λ xs. decimal (c .in-Some-number-before .b) ++ (46 ∷ xs)) (d .1 ∙ ap (λ xs. decimal (c .in-Some-number-before-2 .c) ++ (46 ∷ xs)) (e .1)))
-          ∙ dotted-of (c .in-Some .a) (c .in-Some-number-before .b) (c .in-Some-number-before-2 .c) (c .in-Some-number .d) (c .from-be-bytes .result)
-          (c .if-a-gt255 .left) (c .if-b-gt255 .left) (c .if-c-gt255 .left) (c .if-d-gt255 .left) (c .from-be-bytes .ensures),
+      ∙ ap (λ xs. decimal (c .in-Some .a) ++ (46 ∷ xs)) (b .1
+      ∙ ap (λ xs. decimal (c .in-Some-number-before .b) ++ (46 ∷ xs)) (d .1 ∙ ap (λ xs. decimal (c .in-Some-number-before-2 .c) ++ (46 ∷ xs)) (e .1)))
+      ∙ dotted-of (c .in-Some .a) (c .in-Some-number-before .b) (c .in-Some-number-before-2 .c) (c .in-Some-number .d) (c .from-be-bytes .result)
+        (c .if-a-gt255 .left) (c .if-b-gt255 .left) (c .if-c-gt255 .left) (c .if-d-gt255 .left) (c .from-be-bytes .ensures),
     )

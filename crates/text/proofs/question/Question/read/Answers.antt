@@ -54,7 +54,8 @@ pub returns : need.returns
 returns c =
     let a = address-before (c .args .text .now) (c .in-Some .front) (c .in-Some .rest) (c .in-Some-address .address) (c .in-Some .ensures tt .cases) (c .in-Some-address .ensures tt) in
     let p = c .in-Some-number-before .ensures tt in
-    let w = c .in-Some-time .ensures tt in (
+    let w = c .in-Some-time .ensures tt in
+    (
       record { address = a .0; port = omega (arith, c .if-port-gt65535 .left); when = w .0 },
       a .1 ∙ ap (λ xs. dotted (c .in-Some-address .address) ++ (32 ∷ xs)) (p .1 ∙ ap (λ xs. decimal (c .in-Some-number-before .port) ++ (32 ∷ xs)) (w .1)),
     )
