@@ -15,7 +15,6 @@ use crate::mapping::Mapping;
 use blocks::settings::Settings;
 use mappings::line::Line;
 
-mod asking;
 mod finding;
 mod making;
 mod reading;
