@@ -1,6 +1,6 @@
 // The whole gateway on input records.
-pub mod events;
+mod events;
 pub mod gateway;
 pub mod outcome;
 pub mod promise;
-pub mod rewriting;
+mod rewriting;
