@@ -7,8 +7,8 @@ use Rattle.errors.specs.Messages.{message_in, with_quote}
 use Rattle.errors.proofs.Readings.{error_long}
 use Rattle.errors.proofs.reader.read.Goals as goal
 
-pub read-error-requires : goal.read-error-requires
-read-error-requires c =
+pub read_error-requires : goal.read_error-requires
+read_error-requires c =
     let e : read_of c.args.packet.now ≡ Ok (Error c.in-Ok-Error.heading) = cc c.in-Ok-Error.ensures in
     error_long c.args.packet.now c.in-Ok-Error.heading e
 
@@ -22,7 +22,7 @@ pub returns-in-Ok-Error : goal.returns-in-Ok-Error
 unfolding message_in
 returns-in-Ok-Error c =
     let e : Ok (Error c.in-Ok-Error.heading) ≡ read_of c.args.packet.now = cc c.in-Ok-Error.ensures in
-    c.read-error.ensures ∙ ap (λ r. with_quote r (quoted_in (quote_in c.args.packet.now))) e
+    c.read_error.ensures ∙ ap (λ r. with_quote r (quoted_in (quote_in c.args.packet.now))) e
 
 pub returns-in-Err : goal.returns-in-Err
 unfolding message_in

@@ -7,15 +7,15 @@ use Rattle.packets.specs.Fields.{header_of}
 use Rattle.errors.specs.Quotes.{quote_as, quoted_in}
 use Rattle.errors.proofs.reader.read_quote.Goals as goal
 
-pub returns-then-quote-lt-LEAST-QUOTE : goal.returns-then-quote-lt-LEAST-QUOTE
+pub returns-then-quote-lt-LEAST_QUOTE : goal.returns-then-quote-lt-LEAST_QUOTE
 unfolding quoted_in
-returns-then-quote-lt-LEAST-QUOTE c = grind (arith, nat_tests)
+returns-then-quote-lt-LEAST_QUOTE c = grind (arith, nat_tests)
 
 pub returns : goal.returns
 unfolding quoted_in
 returns c =
     let q : List ℕ = c.args.quote.now in
     let long : 28 ≤ length q = omega arith in
-    c.quote-as.ensures
+    c.quote_as.ensures
     ∙ (ap (λ b. quote_as (header_of q) b) (take_rest q 20)
     ∙ sym (cond-true (leb 28 (length q)) _ _ (le-leb 28 (length q) long)))

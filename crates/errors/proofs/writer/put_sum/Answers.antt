@@ -14,13 +14,13 @@ returns c =
     let p : Protocol = c.args.protocol in
     let b : List ℕ = c.args.body.now in
     let m : ℕ = c.args.moved in
-    let there : c.put-word.new.bytes ≡ put_word b (sum_at p) m = c.put-word.ensures ∙ ap (λ i. put_word b i m) c.sum-at-place.ensures in
+    let there : c.put_word.new.bytes ≡ put_word b (sum_at p) m = c.put_word.ensures ∙ ap (λ i. put_word b i m) c.sum_at-place.ensures in
     let flag : (eqb m 0 && is_spelled_out p (word_sum (put_word b (sum_at p) 0))) ≡ true =
     sym (in_place p b (sum_at p) m)
-    ∙ (ap (λ xs. eqb m 0 && is_spelled_out p (word_sum xs)) (sym there) ∙ (sym c.is-spelled-out.ensures ∙ c.if-not-is-spelled-out.false)) in
+    ∙ (ap (λ xs. eqb m 0 && is_spelled_out p (word_sum xs)) (sym there) ∙ (sym c.is_spelled_out.ensures ∙ c.if-not-is_spelled_out.false)) in
     record {
-      put = c.put-word-2.ensures
-          ∙ (ap (λ i. put_word c.put-word.new.bytes i 65535) c.sum-at-place.ensures
+      put = c.put_word-2.ensures
+          ∙ (ap (λ i. put_word c.put_word.new.bytes i 65535) c.sum_at-place.ensures
           ∙ (ap (λ xs. put_word xs (sum_at p) 65535) there ∙ put_put b (sum_at p) m 65535));
       is = sym (cond-true (eqb m 0 && is_spelled_out p (word_sum (put_word b (sum_at p) 0))) 65535 m flag);
     }

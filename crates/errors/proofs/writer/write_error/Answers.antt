@@ -45,41 +45,41 @@ module _ (bs : List ℕ) (x : Notice) (m : message_in bs ≡ Ok (Error x)) where
     back : (c : List ℕ) → put_mid 20 (n - 20) (h ++ body_of bs) c ≡ h ++ c
     back c = ap (λ i. put_mid 20 (i - 20) (h ++ body_of bs) c) all ∙ body_back 20 h (body_of bs) as_long c
 
-pub word-at-requires : goal.word-at-requires
-word-at-requires c = omega (arith, (own c.args.packet.now c.args.notice c.requires).long)
+pub word_at-requires : goal.word_at-requires
+word_at-requires c = omega (arith, (own c.args.packet.now c.args.notice c.requires).long)
 
-pub slice-bounds-write-header-end : goal.slice-bounds-write-header-end
-slice-bounds-write-header-end c = (own c.args.packet.now c.args.notice c.requires).long
+pub slice-bounds-write_header-end : goal.slice-bounds-write_header-end
+slice-bounds-write_header-end c = (own c.args.packet.now c.args.notice c.requires).long
 
-pub write-header-requires : goal.write-header-requires
-write-header-requires c =
+pub write_header-requires : goal.write_header-requires
+write_header-requires c =
     let bs : List ℕ = c.args.packet.now in
     let r : ReadError bs c.args.notice.heading = own bs c.args.notice c.requires in
     record { long = length_header bs r.long; version = plain_version (header_of bs) (body_of bs) r.plain; sum = r.header }
 
-pub slice-bounds-write-message-count : goal.slice-bounds-write-message-count
-slice-bounds-write-message-count c = omega (arith, total c.args.packet.now c.args.notice c.requires, c.from-total.ensures, c.word-at.ensures)
+pub slice-bounds-write_message-count : goal.slice-bounds-write_message-count
+slice-bounds-write_message-count c = omega (arith, total c.args.packet.now c.args.notice c.requires, c.from-total.ensures, c.word_at.ensures)
 
-pub slice-bounds-write-message-start : goal.slice-bounds-write-message-start
-slice-bounds-write-message-start c = omega (arith, total c.args.packet.now c.args.notice c.requires, c.from-total.ensures, c.word-at.ensures)
+pub slice-bounds-write_message-start : goal.slice-bounds-write_message-start
+slice-bounds-write_message-start c = omega (arith, total c.args.packet.now c.args.notice c.requires, c.from-total.ensures, c.word_at.ensures)
 
-pub slice-bounds-write-message-end : goal.slice-bounds-write-message-end
-slice-bounds-write-message-end c =
+pub slice-bounds-write_message-end : goal.slice-bounds-write_message-end
+slice-bounds-write_message-end c =
     omega (
       arith,
       all c.args.packet.now c.args.notice c.requires c.args.hops c.args.end c.args.endpoint.address c.from-total.result
-          c.write-header.new.header c.write-header.ensures (c.from-total.ensures ∙ c.word-at.ensures),
+          c.write_header.new.header c.write_header.ensures (c.from-total.ensures ∙ c.word_at.ensures),
     )
 
-pub write-message-requires : goal.write-message-requires
-write-message-requires c =
+pub write_message-requires : goal.write_message-requires
+write_message-requires c =
     let bs : List ℕ = c.args.packet.now in
     let b : List ℕ = body_of bs in
     let r : ReadError bs c.args.notice.heading = own bs c.args.notice c.requires in
-    let n-is : c.from-total.result ≡ word_at bs 2 = c.from-total.ensures ∙ c.word-at.ensures in
-    let body = rest bs c.args.notice c.requires c.args.hops c.args.end c.args.endpoint.address c.from-total.result c.write-header.new.header c.write-header.ensures n-is in
+    let n-is : c.from-total.result ≡ word_at bs 2 = c.from-total.ensures ∙ c.word_at.ensures in
+    let body = rest bs c.args.notice c.requires c.args.hops c.args.end c.args.endpoint.address c.from-total.result c.write_header.new.header c.write_header.ensures n-is in
     let enough : 36 ≤ length b = omega (arith, quoted bs c.args.notice c.requires, length-drop 28 bs, length-drop 20 bs) in
-    let short : length b ≤ 65535 = omega (arith, total bs c.args.notice c.requires, c.word-at.type-inv, c.word-at.ensures) in
+    let short : length b ≤ 65535 = omega (arith, total bs c.args.notice c.requires, c.word_at.type_inv, c.word_at.ensures) in
     record {
       long = subst (λ xs. 36 ≤ length xs) (sym body) enough;
       short = subst (λ xs. length xs ≤ 65535) (sym body) short;
@@ -93,12 +93,12 @@ returns c =
     let bs : List ℕ = c.args.packet.now in
     let p : Protocol = c.args.notice.quote.protocol in
     let b : List ℕ = body_of bs in
-    let h : List ℕ = c.write-header.new.header in
-    let n-is : c.from-total.result ≡ word_at bs 2 = c.from-total.ensures ∙ c.word-at.ensures in
-    let body = rest bs c.args.notice c.requires c.args.hops c.args.end c.args.endpoint.address c.from-total.result h c.write-header.ensures n-is in
-    let written : c.write-message.new.body ≡ error_body p (opposite c.args.end) c.args.endpoint b =
-    c.write-message.ensures
-    ∙ (ap (λ xs. error_body p c.quoted-end.result c.args.endpoint xs) body
-    ∙ ap (λ e. error_body p e c.args.endpoint b) c.quoted-end.ensures) in
-    back bs c.args.notice c.requires c.args.hops c.args.end c.args.endpoint.address c.from-total.result h c.write-header.ensures n-is c.write-message.new.body
-    ∙ (ap (λ xs. h ++ xs) written ∙ ap (λ g. g ++ error_body p (opposite c.args.end) c.args.endpoint b) c.write-header.ensures)
+    let h : List ℕ = c.write_header.new.header in
+    let n-is : c.from-total.result ≡ word_at bs 2 = c.from-total.ensures ∙ c.word_at.ensures in
+    let body = rest bs c.args.notice c.requires c.args.hops c.args.end c.args.endpoint.address c.from-total.result h c.write_header.ensures n-is in
+    let written : c.write_message.new.body ≡ error_body p (opposite c.args.end) c.args.endpoint b =
+    c.write_message.ensures
+    ∙ (ap (λ xs. error_body p c.quoted_end.result c.args.endpoint xs) body
+    ∙ ap (λ e. error_body p e c.args.endpoint b) c.quoted_end.ensures) in
+    back bs c.args.notice c.requires c.args.hops c.args.end c.args.endpoint.address c.from-total.result h c.write_header.ensures n-is c.write_message.new.body
+    ∙ (ap (λ xs. h ++ xs) written ∙ ap (λ g. g ++ error_body p (opposite c.args.end) c.args.endpoint b) c.write_header.ensures)

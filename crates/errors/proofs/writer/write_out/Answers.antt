@@ -5,9 +5,9 @@ use Rattle.errors.specs.Requoting.{left}
 use Rattle.errors.proofs.Readings.{was_packet}
 use Rattle.errors.proofs.writer.write_out.Goals as goal
 
-pub write-out-requires : goal.write-out-requires
-write-out-requires c = was_packet c.args.packet.now c.in-Packet.facts (c.requires ∙ ap Ok c.in-Packet.is)
+pub write_out-requires : goal.write_out-requires
+write_out-requires c = was_packet c.args.packet.now c.in-Packet.facts (c.requires ∙ ap Ok c.in-Packet.is)
 
 pub returns-in-Packet : goal.returns-in-Packet
 unfolding left
-returns-in-Packet c = c.write-out.ensures ∙ sym (ap (λ m. left c.args.hops m Source c.args.external c.args.packet.now) c.in-Packet.is)
+returns-in-Packet c = c.write_out.ensures ∙ sym (ap (λ m. left c.args.hops m Source c.args.external c.args.packet.now) c.in-Packet.is)

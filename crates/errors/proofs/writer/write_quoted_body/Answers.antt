@@ -18,30 +18,30 @@ returns-then-body-place c =
     let e : End = c.args.end in
     let b : List ℕ = c.args.body.now in
     let port : ℕ = c.args.port in
-    let there : c.put-word.new.bytes ≡ put_word b (port_at p e) port = c.put-word.ensures ∙ ap (λ i. put_word b i port) c.port-at-at.ensures in
-    let short : length b < sum_at p + 2 = omega (arith, ap length there, length_put b (port_at p e) port, c.sum-at-place.ensures, c.if-body-place.true) in
+    let there : c.put_word.new.bytes ≡ put_word b (port_at p e) port = c.put_word.ensures ∙ ap (λ i. put_word b i port) c.port_at-at.ensures in
+    let short : length b < sum_at p + 2 = omega (arith, ap length there, length_put b (port_at p e) port, c.sum_at-place.ensures, c.if-body-place.true) in
     let absent : has_sum p b ≡ false = and_left (leb (sum_at p + 2) (length b)) (not (has_no_sum p b)) (lt-leb (sum_at p + 2) (length b) short) in
     record {
       is = there ∙ sym (cond-false (has_sum p b) _ _ absent);
-      edit = edit_as (port_edit p e port b c.requires.long) there (c.from.ensures ∙ (c.word-at.ensures ∙ ap (λ i. word_at b i) c.port-at-at.ensures)) c.from-2.ensures;
+      edit = edit_as (port_edit p e port b c.requires.long) there (c.from.ensures ∙ (c.word_at.ensures ∙ ap (λ i. word_at b i) c.port_at-at.ensures)) c.from-2.ensures;
       small = (omega arith, omega arith);
     }
 
-pub returns-then-has-no-sum : goal.returns-then-has-no-sum
-returns-then-has-no-sum c =
+pub returns-then-has_no_sum : goal.returns-then-has_no_sum
+returns-then-has_no_sum c =
     let p : Protocol = c.args.protocol in
     let e : End = c.args.end in
     let b : List ℕ = c.args.body.now in
     let port : ℕ = c.args.port in
-    let there : c.put-word.new.bytes ≡ put_word b (port_at p e) port = c.put-word.ensures ∙ ap (λ i. put_word b i port) c.port-at-at.ensures in
-    let old : c.word-at-old.result ≡ word_at b (sum_at p) =
-    c.word-at-old.ensures
-    ∙ (ap (λ i. word_at c.put-word.new.bytes i) c.sum-at-place.ensures ∙ (ap (λ xs. word_at xs (sum_at p)) there ∙ sum_apart p e port b c.requires.long)) in
-    let none : has_no_sum p b ≡ true = ap (λ w. is_absent p w) (sym old) ∙ (sym c.has-no-sum.ensures ∙ c.if-has-no-sum.true) in
+    let there : c.put_word.new.bytes ≡ put_word b (port_at p e) port = c.put_word.ensures ∙ ap (λ i. put_word b i port) c.port_at-at.ensures in
+    let old : c.word_at-old.result ≡ word_at b (sum_at p) =
+    c.word_at-old.ensures
+    ∙ (ap (λ i. word_at c.put_word.new.bytes i) c.sum_at-place.ensures ∙ (ap (λ xs. word_at xs (sum_at p)) there ∙ sum_apart p e port b c.requires.long)) in
+    let none : has_no_sum p b ≡ true = ap (λ w. is_absent p w) (sym old) ∙ (sym c.has_no_sum.ensures ∙ c.if-has_no_sum.true) in
     let absent : has_sum p b ≡ false = and_right (leb (sum_at p + 2) (length b)) (not (has_no_sum p b)) (not_from_true (has_no_sum p b) none) in
     record {
       is = there ∙ sym (cond-false (has_sum p b) _ _ absent);
-      edit = edit_as (port_edit p e port b c.requires.long) there (c.from.ensures ∙ (c.word-at.ensures ∙ ap (λ i. word_at b i) c.port-at-at.ensures)) c.from-2.ensures;
+      edit = edit_as (port_edit p e port b c.requires.long) there (c.from.ensures ∙ (c.word_at.ensures ∙ ap (λ i. word_at b i) c.port_at-at.ensures)) c.from-2.ensures;
       small = (omega arith, omega arith);
     }
 
@@ -54,27 +54,27 @@ returns c =
     let gone : ℕ = c.args.address.gone in
     let new : ℕ = c.args.address.new in
     let ported : List ℕ = put_word b (port_at p e) port in
-    let there : c.put-word.new.bytes ≡ ported = c.put-word.ensures ∙ ap (λ i. put_word b i port) c.port-at-at.ensures in
-    let old : c.word-at-old.result ≡ word_at b (sum_at p) =
-    c.word-at-old.ensures
-    ∙ (ap (λ i. word_at c.put-word.new.bytes i) c.sum-at-place.ensures ∙ (ap (λ xs. word_at xs (sum_at p)) there ∙ sum_apart p e port b c.requires.long)) in
-    let out : c.from.result ≡ word_at b (port_at p e) = c.from.ensures ∙ (c.word-at.ensures ∙ ap (λ i. word_at b i) c.port-at-at.ensures) in
-    let within : sum_at p + 1 < length b = omega (arith, ap length there, length_put b (port_at p e) port, c.sum-at-place.ensures, c.if-body-place.false) in
-    let some : has_no_sum p b ≡ false = ap (λ w. is_absent p w) (sym old) ∙ (sym c.has-no-sum.ensures ∙ c.if-has-no-sum.false) in
+    let there : c.put_word.new.bytes ≡ ported = c.put_word.ensures ∙ ap (λ i. put_word b i port) c.port_at-at.ensures in
+    let old : c.word_at-old.result ≡ word_at b (sum_at p) =
+    c.word_at-old.ensures
+    ∙ (ap (λ i. word_at c.put_word.new.bytes i) c.sum_at-place.ensures ∙ (ap (λ xs. word_at xs (sum_at p)) there ∙ sum_apart p e port b c.requires.long)) in
+    let out : c.from.result ≡ word_at b (port_at p e) = c.from.ensures ∙ (c.word_at.ensures ∙ ap (λ i. word_at b i) c.port_at-at.ensures) in
+    let within : sum_at p + 1 < length b = omega (arith, ap length there, length_put b (port_at p e) port, c.sum_at-place.ensures, c.if-body-place.false) in
+    let some : has_no_sum p b ≡ false = ap (λ w. is_absent p w) (sym old) ∙ (sym c.has_no_sum.ensures ∙ c.if-has_no_sum.false) in
     let present : has_sum p b ≡ true =
     and_from (leb (sum_at p + 2) (length b)) (not (has_no_sum p b)) (le-leb (sum_at p + 2) (length b) (omega arith)) (not_from_false (has_no_sum p b) some) in
     let m : ℕ = moved (word_at b (sum_at p)) (gone + word_at b (port_at p e)) (new + port) in
-    let m-is : c.move-sum-moved.result ≡ m =
-    c.move-sum-moved.ensures
+    let m-is : c.move_sum-moved.result ≡ m =
+    c.move_sum-moved.ensures
     ∙ (ap (λ w. moved w (gone + c.from.result) (new + c.from-2.result)) old
     ∙ (ap (λ g. moved (word_at b (sum_at p)) (gone + g) (new + c.from-2.result)) out
     ∙ ap (λ n. moved (word_at b (sum_at p)) (gone + word_at b (port_at p e)) (new + n)) c.from-2.ensures)) in
-    let s : ℕ = c.put-sum-sum.result in
+    let s : ℕ = c.put_sum-sum.result in
     let s-is : s ≡ respelled p m (word_sum (put_word ported (sum_at p) 0)) =
-    c.put-sum-sum.ensures.is
-    ∙ (ap (λ k. respelled p k (word_sum (put_word c.put-word.new.bytes (sum_at p) 0))) m-is
+    c.put_sum-sum.ensures.is
+    ∙ (ap (λ k. respelled p k (word_sum (put_word c.put_word.new.bytes (sum_at p) 0))) m-is
     ∙ ap (λ xs. respelled p m (word_sum (put_word xs (sum_at p) 0))) there) in
-    let put : c.put-sum-sum.new.body ≡ put_word ported (sum_at p) s = c.put-sum-sum.ensures.put ∙ ap (λ xs. put_word xs (sum_at p) s) there in
+    let put : c.put_sum-sum.new.body ≡ put_word ported (sum_at p) s = c.put_sum-sum.ensures.put ∙ ap (λ xs. put_word xs (sum_at p) s) there in
     record {
       is = put ∙ (ap (λ w. put_word ported (sum_at p) w) s-is ∙ sym (cond-true (has_sum p b) _ _ present));
       edit = edit_as (body_edit p e port b c.requires.long s within) put

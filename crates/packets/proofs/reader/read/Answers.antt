@@ -18,7 +18,7 @@ returns c =
     let long : 20 ≤ length p = omega arith in
     let body = take_rest p 20 in
     let is-long : leb 20 (length p) ≡ true = le-leb 20 (length p) long in
-    c.read-as.ensures
-    ∙ (ap (λ y. read_as y (header_of p) (take (length p - 20) (body_of p))) c.payload-of.ensures
+    c.read_as.ensures
+    ∙ (ap (λ y. read_as y (header_of p) (take (length p - 20) (body_of p))) c.payload_of.ensures
     ∙ (ap (λ b. read_as (payload_of (protocol_number (header_of p))) (header_of p) b) body
     ∙ sym (cond-true (leb 20 (length p)) _ _ is-long)))

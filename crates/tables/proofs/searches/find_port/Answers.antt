@@ -28,8 +28,8 @@ loop-at-init c =
 pub bounds-slots-at : goal.bounds-slots-at
 bounds-slots-at c = omega (arith, c.requires.slots, block_end c.args.settings.now _ _ c.size-size.ensures (c.requires.blocks c.loop-block.block-index))
 
-pub overflow-cast-result : goal.overflow-cast-result
-overflow-cast-result c = omega (arith, block_end c.args.settings.now _ _ c.size-size.ensures (c.requires.blocks c.loop-block.block-index))
+pub overflow_cast-result : goal.overflow_cast-result
+overflow_cast-result c = omega (arith, block_end c.args.settings.now _ _ c.size-size.ensures (c.requires.blocks c.loop-block.block-index))
 
 pub loop-at-preserved : goal.loop-at-preserved
 loop-at-preserved c =
@@ -41,7 +41,7 @@ loop-at-preserved c =
     let f = passes_at (config s) c.args.sought.now (slots_of xs) in
     let rest = flat_map (block_ports (config s)) (drop (c.loop-block.block-index + 1) bs) in
     let within : at < length xs = omega (arith, c.requires.slots, block_end s _ _ c.size-size.ensures (c.requires.blocks c.loop-block.block-index)) in
-    let no = ap (passes (config s) c.args.sought.now) (slot_read xs at c.index-slots-at.result within c.index-slots-at.is) ∙ sym c.passes-by.ensures ∙ c.if-passes-by.false in
+    let no = ap (passes (config s) c.args.sought.now) (slot_read xs at c.index-slots-at.result within c.index-slots-at.is) ∙ sym c.passes_by.ensures ∙ c.if-passes_by.false in
     sym (look_on f rest (1024 + at) (stop - at) (stop - (at + 1)) (1024 + (at + 1)) (omega arith) (omega arith) no) ∙ c.loop-at.invariant
 
 pub loop-block-preserved : goal.loop-block-preserved
@@ -54,8 +54,8 @@ loop-block-preserved c =
     let rest = flat_map (block_ports (config s)) (drop (c.loop-block.block-index + 1) bs) in
     sym (look_end f rest (1024 + at) (stop - at) (omega arith)) ∙ c.loop-at.invariant
 
-pub returns-then-passes-by : goal.returns-then-passes-by
-returns-then-passes-by c =
+pub returns-then-passes_by : goal.returns-then-passes_by
+returns-then-passes_by c =
     let s = c.args.settings.now in
     let xs = c.args.slots.now in
     let bs = c.args.blocks.now in
@@ -64,7 +64,7 @@ returns-then-passes-by c =
     let f = passes_at (config s) c.args.sought.now (slots_of xs) in
     let rest = flat_map (block_ports (config s)) (drop (c.loop-block.block-index + 1) bs) in
     let within : at < length xs = omega (arith, c.requires.slots, block_end s _ _ c.size-size.ensures (c.requires.blocks c.loop-block.block-index)) in
-    let there = ap (passes (config s) c.args.sought.now) (slot_read xs at c.index-slots-at.result within c.index-slots-at.is) ∙ sym c.passes-by.ensures ∙ c.if-passes-by.true in
+    let there = ap (passes (config s) c.args.sought.now) (slot_read xs at c.index-slots-at.result within c.index-slots-at.is) ∙ sym c.passes_by.ensures ∙ c.if-passes_by.true in
     sym (look_here f rest (1024 + at) (stop - at) (stop - (at + 1)) (omega arith) there) ∙ c.loop-at.invariant
 
 pub returns-after-loop-block : goal.returns-after-loop-block

@@ -10,5 +10,5 @@ use Rattle.tables.proofs.searches.is_used.Goals as goal
 
 pub returns : goal.returns
 returns c =
-    c.is-some.ensures
-    ∙ ap is_some (c.find-port.ensures ∙ ap (first (is_taken (slots_of c.args.slots.now))) (append-nil (block_ports (config c.args.settings.now) c.args.block)))
+    c.is_some.ensures
+    ∙ ap is_some (c.find_port.ensures ∙ ap (first (is_taken (slots_of c.args.slots.now))) (append-nil (block_ports (config c.args.settings.now) c.args.block)))

@@ -28,11 +28,11 @@ pub loop-byte-preserved : goal.loop-byte-preserved
 loop-byte-preserved c =
     let bs = c.args.bytes.now in
     let i = c.loop-byte.byte-index in
-    let byte : get_or bs i 0 < 256 = (c.type-inv.bytes i).fits in
-    let first = c.in-ok-push.ensures in
-    let second = c.in-ok-push-2.ensures in
-    let high = digit (get_or bs i 0 / 16) c.hex-digit-high.result (omega arith) c.hex-digit-high.ensures first.ascii in
-    let low = digit (get_or bs i 0 % 16) c.hex-digit-low.result (omega arith) c.hex-digit-low.ensures second.ascii in
+    let byte : get_or bs i 0 < 256 = (c.type_inv.bytes i).fits in
+    let first = c.in_ok-push.ensures in
+    let second = c.in_ok-push-2.ensures in
+    let high = digit (get_or bs i 0 / 16) c.hex_digit-high.result (omega arith) c.hex_digit-high.ensures first.ascii in
+    let low = digit (get_or bs i 0 % 16) c.hex_digit-low.result (omega arith) c.hex_digit-low.ensures second.ascii in
     one_more bs i (string_bytes c.loop-byte.text) (string_bytes c.push-in-loop-byte.new.self) c.loop-byte-test.true c.loop-byte.invariant
     (second.bytes ∙ (λ j. (first.bytes ∙ ap (λ xs. string_bytes c.loop-byte.text ++ xs) high) j ++ low j))
 

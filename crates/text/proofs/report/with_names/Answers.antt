@@ -10,7 +10,7 @@ loop-name-preserved c =
     let i = c.loop-name.name-index in
     let old = string_bytes c.loop-name.text in
     let left = more_text (drop (i + 1) names) in
-    ap (λ xs. xs ++ left) (c.in-ok-push-str.ensures.bytes ∙ ap (λ ys. old ++ ys) (c.as-str.ensures.value ∙ c.in-ok-more.ensures.ok))
+    ap (λ xs. xs ++ left) (c.in_ok-push_str.ensures.bytes ∙ ap (λ ys. old ++ ys) (c.as_str.ensures.value ∙ c.in_ok-more.ensures.ok))
     ∙ append_assoc old (codes " " ++ decimal (get_or names i 0)) left
     ∙ ap (λ ys. old ++ ys) (sym (at_drop_more more_text names i 0 c.loop-name-test.true))
     ∙ c.loop-name.invariant

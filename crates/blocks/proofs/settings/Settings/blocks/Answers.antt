@@ -3,5 +3,5 @@ use Rattle.std.proofs.Common.{arith}
 use Rattle.blocks.proofs.Limits.{known}
 use Rattle.blocks.proofs.settings.Settings.blocks.Goals as goal
 
-pub nonzero-div-result : goal.nonzero-div-result
-nonzero-div-result c = omega (arith, (known c.args.self.now).smallest)
+pub nonzero_div-result : goal.nonzero_div-result
+nonzero_div-result c = omega (arith, (known c.args.self.now).smallest)

@@ -13,17 +13,17 @@ returns-then-place-blocks c =
     let high : n ≤ q.block = omega (arith, c.blocks-2.ensures) in
     sym (cond-false _ _ _ (and_left (ltb q.block n) (ltb q.offset c.args.self.now.size) (le-ltb q.block n high)))
 
-pub overflow-mul-result : goal.overflow-mul-result
-overflow-mul-result c =
+pub overflow_mul-result : goal.overflow_mul-result
+overflow_mul-result c =
     let s = c.args.self.now in
     omega (arith, port_small (config s) (known s) _ _ _ c.blocks-2.ensures c.if-place-blocks.false c.if-place-self.false)
 
-pub overflow-add-result : goal.overflow-add-result
-overflow-add-result c =
+pub overflow_add-result : goal.overflow_add-result
+overflow_add-result c =
     let s = c.args.self.now in
     omega (arith, port_small (config s) (known s) _ _ _ c.blocks-2.ensures c.if-place-blocks.false c.if-place-self.false)
 
-pub overflow-add-result-2 : goal.overflow-add-result-2
-overflow-add-result-2 c =
+pub overflow_add-result-2 : goal.overflow_add-result-2
+overflow_add-result-2 c =
     let s = c.args.self.now in
     omega (arith, port_small (config s) (known s) _ _ _ c.blocks-2.ensures c.if-place-blocks.false c.if-place-self.false)

@@ -12,5 +12,5 @@ returns-in-Fault c =
 pub returns-in-End : goal.returns-in-End
 returns-in-End c =
     let s = c.args.self.now in
-    let h = ap cause_in (rest s.input.now s.at c.record-in.ensures.is) in
+    let h = ap cause_in (rest s.input.now s.at c.record_in.ensures.is) in
     ⊎_elim (λ e. ap (λ f. cause_in (front_of f)) (sym e) ∙ h) (λ e. ap (λ f. cause_in (front_of f)) (sym e.2) ∙ h) c.in-End.is

@@ -13,8 +13,8 @@ use Rattle.tables.proofs.further.Further.keeping.Goals.{then-is-used, else-is-us
 pub loop-block-init : goal.loop-block-init
 loop-block-init c = (c.none-left.ensures, omega (arith, ap length c.none-left.ensures))
 
-pub is-used-requires : goal.is-used-requires
-is-used-requires c =
+pub is_used-requires : goal.is_used-requires
+is_used-requires c =
     let f = c.args.self in
     let i = c.loop-block.block-index in
     let same : f.count ≡ f.count - 0 = omega arith in
@@ -34,15 +34,15 @@ loop-block-preserved c =
     let used = is_used (config c.args.settings.now) (slots_of c.args.slots.now) in
     let before = filter used (take i xs) in
     let more = filter_more used xs i 0 c.loop-block-test.true in
-    elim c.if-is-used.branch [
+    elim c.if-is_used.branch [
       | then-is-used w ↦
           let grown = ap blocks_in w.left-is ∙ w.with-left.ensures in (
-            grown ∙ ap (λ ys. ys ++ x ∷ []) c.loop-block.invariant.0 ∙ ap (λ b. before ++ cond b (x ∷ []) []) (sym (sym c.is-used.ensures ∙ w.if-is-used.true)) ∙ sym more,
+            grown ∙ ap (λ ys. ys ++ x ∷ []) c.loop-block.invariant.0 ∙ ap (λ b. before ++ cond b (x ∷ []) []) (sym (sym c.is_used.ensures ∙ w.if-is_used.true)) ∙ sym more,
             omega (arith, ap length grown, length_push (blocks_in c.loop-block.left) x, c.loop-block.invariant.1),
           )
       | else-is-used w ↦
           let same = ap blocks_in w.left-is in (
-            same ∙ c.loop-block.invariant.0 ∙ sym (append-nil before) ∙ ap (λ b. before ++ cond b (x ∷ []) []) (sym (sym c.is-used.ensures ∙ w.if-is-used.false)) ∙ sym more,
+            same ∙ c.loop-block.invariant.0 ∙ sym (append-nil before) ∙ ap (λ b. before ++ cond b (x ∷ []) []) (sym (sym c.is_used.ensures ∙ w.if-is_used.false)) ∙ sym more,
             omega (arith, ap length same, c.loop-block.invariant.1),
           )
     ]

@@ -10,8 +10,8 @@ returns c =
     let m = c.args.self in
     let a = c.args.address in
     let long : length m.addresses ≡ 16 = omega arith in
-    let ys = c.put-first.new.addresses in
-    let all : ys ≡ take 16 (a ∷ without a m.addresses) = c.put-first.ensures ∙ ap (λ n. take n (a ∷ without a m.addresses)) long in
+    let ys = c.put_first.new.addresses in
+    let all : ys ≡ take 16 (a ∷ without a m.addresses) = c.put_first.ensures ∙ ap (λ n. take n (a ∷ without a m.addresses)) long in
     let front : take c.if-count-lt16.count ys ≡ take 16 (a ∷ without a (take m.count m.addresses)) =
     ap (λ zs. take c.if-count-lt16.count zs) all ∙
     elim c.if-count-lt16.branch [

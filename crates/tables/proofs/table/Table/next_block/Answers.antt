@@ -18,8 +18,8 @@ returns-then-count-further c =
     let row = row_read (vec_items t.further) n c.index.result.now (omega (arith, t.further.ok.0, t.by_subscriber, c.requires)) c.index.ensures in
     sym (cond-false _ _ _ (le-ltb (length (further_of (model t) n)) (config_of t).further (omega (arith, ap length row, c.count.ensures, c.further.ensures, c.if-count-further.true))))
 
-pub lowest-out-requires : goal.lowest-out-requires
-lowest-out-requires c = omega (arith, few_blocks c.args.self.now.settings, c.blocks-2.ensures)
+pub lowest_out-requires : goal.lowest_out-requires
+lowest_out-requires c = omega (arith, few_blocks c.args.self.now.settings, c.blocks-2.ensures)
 
 pub returns : goal.returns
 returns c =
@@ -28,7 +28,7 @@ returns c =
     let row = row_read (vec_items t.further) n c.index.result.now (omega (arith, t.further.ok.0, t.by_subscriber, c.requires)) c.index.ensures in
     let from = (config_of t).subscribers in
     let many : c.blocks-2.result - c.subscribers.result ≡ blocks_of (config_of t) - from = omega (arith, c.blocks-2.ensures, c.subscribers.ensures) in
-    c.lowest-out.ensures
+    c.lowest_out.ensures
     ∙ ap (λ k. first (is_out t.given) (range c.subscribers.result k)) many
     ∙ ap (λ k. first (is_out t.given) (range k (blocks_of (config_of t) - from))) c.subscribers.ensures
     ∙ first_same (is_out t.given) (is_unheld (vec_items t.holders)) (range from (blocks_of (config_of t) - from)) (λ b _. ap not (t.agree b))

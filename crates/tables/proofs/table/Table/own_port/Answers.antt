@@ -12,8 +12,8 @@ use Rattle.tables.specs.Sought.{passes_at}
 use Rattle.tables.proofs.Own.{own_part, own_within, row_read}
 use Rattle.tables.proofs.table.Table.own_port.Goals as goal
 
-pub find-port-requires : goal.find-port-requires
-find-port-requires c =
+pub find_port-requires : goal.find_port-requires
+find_port-requires c =
     let t = c.args.self.now in
     let n = c.args.subscriber in
     let f = c.index-further.result.now in
@@ -32,7 +32,7 @@ returns c =
     let row = row_read (vec_items t.further) n f (omega (arith, t.further.ok.0, t.by_subscriber, c.requires)) c.index-further.ensures in
     let part = own_part n c.count-count.result c.behind-own.result f c.behind-own.ensures c.count-count.ensures in
     let test = passes_at (config_of t) c.args.sought.now in
-    let is = c.find-port.ensures
+    let is = c.find_port.ensures
     ∙ ap (λ zs. first (test (slots_of zs)) (flat_map (block_ports (config_of t)) (take ((1 + c.count-count.result) - 0) c.behind-own.result))) c.deref.ensures.value
     ∙ ap (λ xs. first (test (slots_of (vec_items t.slots))) (flat_map (block_ports (config_of t)) xs)) (part ∙ ap (λ xs. n ∷ xs) (sym row)) in
     record {

@@ -26,7 +26,7 @@ pub returns-in-ErrorGoes : goal.returns-in-ErrorGoes
 returns-in-ErrorGoes c =
     let t = c.args.self.now in
     did_step (config_of t) c.args.event.now (model t) _ _ _ c.if-self.false (omega arith)
-    (ap (λ v. only v (model t)) c.error-out-verdict.ensures ∙ sym (ap (λ e. handled (config_of t) e (model t)) c.in-ErrorGoes.is)) c.only-in-ErrorGoes.ensures
+    (ap (λ v. only v (model t)) c.error_out-verdict.ensures ∙ sym (ap (λ e. handled (config_of t) e (model t)) c.in-ErrorGoes.is)) c.only-in-ErrorGoes.ensures
 
 pub returns-in-ErrorComes : goal.returns-in-ErrorComes
 returns-in-ErrorComes c =

@@ -23,15 +23,15 @@ pub returns-in-default-address : goal.returns-in-default-address
 returns-in-default-address c q ok e =
     not_before dotted (IsBelow (2 ^ 32)) 32 (omega arith) dotted_lacks c.args.text.now c.in-Some.front c.in-Some.rest c.in-Some.ensures.cases c.in-default-address.ensures q.address _ ok.address e
 
-pub returns-in-default-number-before : goal.returns-in-default-number-before
-returns-in-default-number-before c q ok e =
+pub returns-in-default-number_before : goal.returns-in-default-number_before
+returns-in-default-number_before c q ok e =
     let a = address_before c.args.text.now c.in-Some.front c.in-Some.rest c.in-Some-address.address c.in-Some.ensures.cases c.in-Some-address.ensures in
-    c.in-default-number-before.ensures q.port _ (omega (arith, ok.port)) (behind q ok _ a.0 a.1 e)
+    c.in-default-number_before.ensures q.port _ (omega (arith, ok.port)) (behind q ok _ a.0 a.1 e)
 
 pub returns-then-port-gt65535 : goal.returns-then-port-gt65535
 returns-then-port-gt65535 c q ok e =
     let a = address_before c.args.text.now c.in-Some.front c.in-Some.rest c.in-Some-address.address c.in-Some.ensures.cases c.in-Some-address.ensures in
-    let p = c.in-Some-number-before.ensures in
+    let p = c.in-Some-number_before.ensures in
     let small : q.port < 2 ^ 64 = omega (arith, ok.port) in
     let same = part 32 (omega arith) _ q.port p.0 small p.1 (behind q ok _ a.0 a.1 e) in
     omega (arith, same.0, ok.port, c.if-port-gt65535.true)
@@ -39,7 +39,7 @@ returns-then-port-gt65535 c q ok e =
 pub returns-in-default-time : goal.returns-in-default-time
 returns-in-default-time c q ok e =
     let a = address_before c.args.text.now c.in-Some.front c.in-Some.rest c.in-Some-address.address c.in-Some.ensures.cases c.in-Some-address.ensures in
-    let p = c.in-Some-number-before.ensures in
+    let p = c.in-Some-number_before.ensures in
     let small : q.port < 2 ^ 64 = omega (arith, ok.port) in
     let same = part 32 (omega arith) _ q.port p.0 small p.1 (behind q ok _ a.0 a.1 e) in
     c.in-default-time.ensures q.when ok.when same.1
@@ -47,8 +47,8 @@ returns-in-default-time c q ok e =
 pub returns : goal.returns
 returns c =
     let a = address_before c.args.text.now c.in-Some.front c.in-Some.rest c.in-Some-address.address c.in-Some.ensures.cases c.in-Some-address.ensures in
-    let p = c.in-Some-number-before.ensures in
+    let p = c.in-Some-number_before.ensures in
     let w = c.in-Some-time.ensures in (
       record { address = a.0; port = omega (arith, c.if-port-gt65535.false); when = w.0 },
-      a.1 ∙ ap (λ xs. dotted c.in-Some-address.address ++ (32 ∷ xs)) (p.1 ∙ ap (λ xs. decimal c.in-Some-number-before.port ++ (32 ∷ xs)) w.1),
+      a.1 ∙ ap (λ xs. dotted c.in-Some-address.address ++ (32 ∷ xs)) (p.1 ∙ ap (λ xs. decimal c.in-Some-number_before.port ++ (32 ∷ xs)) w.1),
     )
