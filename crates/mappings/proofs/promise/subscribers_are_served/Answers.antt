@@ -4,4 +4,4 @@ use Rattle.mappings.proofs.Memory.{noted_now, remembered, moves_back}
 use Rattle.mappings.proofs.promise.subscribers_are_served.Goals as goal
 
 pub returns : goal.returns
-returns c = record { out = served; goal = given_in_need; answers = let_in; noted = noted_now; remembered = remembered; lasting = moves_back }
+returns c = record { out = served; need = given_in_need; answers = let_in; noted = noted_now; remembered = remembered; lasting = moves_back }

@@ -5,23 +5,23 @@ use Rattle.text.specs.Reading.{dotted}
 use Rattle.text.proofs.Dotted.{after_one, after_two, after_three, dotted_of}
 use Rattle.text.proofs.address.address.Goals as goal
 
-pub returns-in-default-number_before : goal.returns-in-default-number_before
-returns-in-default-number_before c x small whole =
+pub returns-in_default-number_before : goal.returns-in_default-number_before
+returns-in_default-number_before c x small whole =
     let a = c.in-Some.ensures in
-    c.in-default-number_before.ensures (x / 65536 % 256) _ (omega arith) (after_one x small whole _ a.0 a.1).1
+    c.in_default-number_before.ensures (x / 65536 % 256) _ (omega arith) (after_one x small whole _ a.0 a.1).1
 
-pub returns-in-default-number_before-2 : goal.returns-in-default-number_before-2
-returns-in-default-number_before-2 c x small whole =
+pub returns-in_default-number_before-2 : goal.returns-in_default-number_before-2
+returns-in_default-number_before-2 c x small whole =
     let a = c.in-Some.ensures in
     let b = c.in-Some-number_before.ensures in
-    c.in-default-number_before-2.ensures (x / 256 % 256) _ (omega arith) (after_two x small whole _ a.0 a.1 _ b.0 b.1).1
+    c.in_default-number_before-2.ensures (x / 256 % 256) _ (omega arith) (after_two x small whole _ a.0 a.1 _ b.0 b.1).1
 
-pub returns-in-default-number : goal.returns-in-default-number
-returns-in-default-number c x small whole =
+pub returns-in_default-number : goal.returns-in_default-number
+returns-in_default-number c x small whole =
     let a = c.in-Some.ensures in
     let b = c.in-Some-number_before.ensures in
     let d = c.in-Some-number_before-2.ensures in
-    c.in-default-number.ensures (x % 256) (omega arith) (after_three x small whole _ a.0 a.1 _ b.0 b.1 _ d.0 d.1).1
+    c.in_default-number.ensures (x % 256) (omega arith) (after_three x small whole _ a.0 a.1 _ b.0 b.1 _ d.0 d.1).1
 
 pub returns-then-a-gt255 : goal.returns-then-a-gt255
 returns-then-a-gt255 c x small whole =

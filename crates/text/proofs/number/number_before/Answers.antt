@@ -5,14 +5,14 @@ use Rattle.text.proofs.Decimal.{no_other}
 use Rattle.text.proofs.Separated.{none_before, not_before, read_before}
 use Rattle.text.proofs.number.number_before.Goals as goal
 
-pub returns-in-default : goal.returns-in-default
-returns-in-default c =
-    none_before decimal (IsBelow (2 ^ 64)) c.args.separator (omega (arith, c.requires)) (λ n small. no_other n c.args.separator small c.requires) c.args.text.now c.in-default.ensures.cases
+pub returns-in_default : goal.returns-in_default
+returns-in_default c =
+    none_before decimal (IsBelow (2 ^ 64)) c.args.separator (omega (arith, c.requires)) (λ n small. no_other n c.args.separator small c.requires) c.args.text.now c.in_default.ensures.cases
 
-pub returns-in-default-number : goal.returns-in-default-number
-returns-in-default-number c =
+pub returns-in_default-number : goal.returns-in_default-number
+returns-in_default-number c =
     not_before decimal (IsBelow (2 ^ 64)) c.args.separator (omega (arith, c.requires)) (λ n small. no_other n c.args.separator small c.requires) c.args.text.now
-    c.in-Some.front c.in-Some.rest c.in-Some.ensures.cases c.in-default-number.ensures
+    c.in-Some.front c.in-Some.rest c.in-Some.ensures.cases c.in_default-number.ensures
 
 pub returns : goal.returns
 returns c =

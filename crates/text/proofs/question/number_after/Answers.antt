@@ -4,11 +4,11 @@ use Rattle.std.proofs.lemmas.Fmt.{decimal_injective}
 use Rattle.text.proofs.Separated.{behind_word}
 use Rattle.text.proofs.question.number_after.Goals as goal
 
-pub returns-in-default-number : goal.returns-in-default-number
-returns-in-default-number c x few e =
+pub returns-in_default-number : goal.returns-in_default-number
+returns-in_default-number c x few e =
     let cut = c.in-Some.ensures.cases in
     let w = behind_word c.args.word.now c.args.text.now c.in-Some.rest.now cut.0 cut.1.0 cut.1.1 cut.2 in
-    c.in-default-number.ensures x (omega (arith, few)) (w.1 (decimal x) e)
+    c.in_default-number.ensures x (omega (arith, few)) (w.1 (decimal x) e)
 
 pub returns-then-n-most : goal.returns-then-n-most
 returns-then-n-most c x few e =

@@ -9,10 +9,10 @@ use Rattle.text.proofs.lines.Lines.next.Goals as goal
 rest : (bs : List ℕ) (at : ℕ) → take (length bs - at) (drop at bs) ≡ drop at bs
 rest bs at = between_to_end bs at (length bs) (le_refl (length bs))
 
-pub returns-in-default : goal.returns-in-default
-returns-in-default c =
+pub returns-in_default : goal.returns-in_default
+returns-in_default c =
     let s = c.args.self.now in
-    let h = c.in-default.ensures in
+    let h = c.in_default.ensures in
     let same = rest s.text.now s.at in
     record { text = refl; line = h.line ∙ ap first_line same; stands = sym (add-zero s.at) ∙ ap (λ n. s.at + n) (h.stands ∙ ap line_taken same); advances = λ e. absurd (false≢true e) }
 

@@ -29,5 +29,5 @@ asked_ascii q ok =
     let port = then q.port 32 behind (omega (arith, ok.port)) (omega arith) (when_ascii q.when ok.when) in
     IsAscii-append (dotted q.address) _ (dotted_ascii q.address ok.address) (IsAscii-cons 32 _ (omega arith) port)
 
-pub returns-in-default : goal.returns-in-default
-returns-in-default c q ok e = c.in-default.ensures.cases.0 (subst IsUtf8 (sym e) (IsUtf8-from_ascii (asked q) (asked_ascii q ok)))
+pub returns-in_default : goal.returns-in_default
+returns-in_default c q ok e = c.in_default.ensures.cases.0 (subst IsUtf8 (sym e) (IsUtf8-from_ascii (asked q) (asked_ascii q ok)))

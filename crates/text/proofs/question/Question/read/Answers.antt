@@ -16,17 +16,17 @@ behind q ok a small e f = (split_once_only 32 (dotted a) (dotted q.address) _ _ 
 address_before : (bs : List ℕ) (front rest : Bor (List ℕ)) (a : ℕ) → IsSplitOnceResult 32 bs (Some (front, rest)) → ReadsAs dotted (IsBelow (2 ^ 32)) front.now (Some a) → ReadsBefore dotted (IsBelow (2 ^ 32)) 32 bs (Some (a, rest))
 address_before bs front rest a h is = read_before dotted (IsBelow (2 ^ 32)) 32 (omega arith) dotted_lacks bs front rest a h is
 
-pub returns-in-default : goal.returns-in-default
-returns-in-default c q ok e = none_before dotted (IsBelow (2 ^ 32)) 32 (omega arith) dotted_lacks c.args.text.now c.in-default.ensures.cases q.address _ ok.address e
+pub returns-in_default : goal.returns-in_default
+returns-in_default c q ok e = none_before dotted (IsBelow (2 ^ 32)) 32 (omega arith) dotted_lacks c.args.text.now c.in_default.ensures.cases q.address _ ok.address e
 
-pub returns-in-default-address : goal.returns-in-default-address
-returns-in-default-address c q ok e =
-    not_before dotted (IsBelow (2 ^ 32)) 32 (omega arith) dotted_lacks c.args.text.now c.in-Some.front c.in-Some.rest c.in-Some.ensures.cases c.in-default-address.ensures q.address _ ok.address e
+pub returns-in_default-address : goal.returns-in_default-address
+returns-in_default-address c q ok e =
+    not_before dotted (IsBelow (2 ^ 32)) 32 (omega arith) dotted_lacks c.args.text.now c.in-Some.front c.in-Some.rest c.in-Some.ensures.cases c.in_default-address.ensures q.address _ ok.address e
 
-pub returns-in-default-number_before : goal.returns-in-default-number_before
-returns-in-default-number_before c q ok e =
+pub returns-in_default-number_before : goal.returns-in_default-number_before
+returns-in_default-number_before c q ok e =
     let a = address_before c.args.text.now c.in-Some.front c.in-Some.rest c.in-Some-address.address c.in-Some.ensures.cases c.in-Some-address.ensures in
-    c.in-default-number_before.ensures q.port _ (omega (arith, ok.port)) (behind q ok _ a.0 a.1 e)
+    c.in_default-number_before.ensures q.port _ (omega (arith, ok.port)) (behind q ok _ a.0 a.1 e)
 
 pub returns-then-port-gt65535 : goal.returns-then-port-gt65535
 returns-then-port-gt65535 c q ok e =
@@ -36,13 +36,13 @@ returns-then-port-gt65535 c q ok e =
     let same = part 32 (omega arith) _ q.port p.0 small p.1 (behind q ok _ a.0 a.1 e) in
     omega (arith, same.0, ok.port, c.if-port-gt65535.true)
 
-pub returns-in-default-time : goal.returns-in-default-time
-returns-in-default-time c q ok e =
+pub returns-in_default-time : goal.returns-in_default-time
+returns-in_default-time c q ok e =
     let a = address_before c.args.text.now c.in-Some.front c.in-Some.rest c.in-Some-address.address c.in-Some.ensures.cases c.in-Some-address.ensures in
     let p = c.in-Some-number_before.ensures in
     let small : q.port < 2 ^ 64 = omega (arith, ok.port) in
     let same = part 32 (omega arith) _ q.port p.0 small p.1 (behind q ok _ a.0 a.1 e) in
-    c.in-default-time.ensures q.when ok.when same.1
+    c.in_default-time.ensures q.when ok.when same.1
 
 pub returns : goal.returns
 returns c =
