@@ -8,7 +8,7 @@ use Rattle.blocks.specs.Settings.{config}
 use Rattle.mappings.specs.Steps.{is_used}
 use Rattle.tables.specs.Rows.{blocks_in, slots_of}
 use Rattle.tables.proofs.further.Further.keeping.Goals as goal
-use Rattle.tables.proofs.further.Further.keeping.Goals.{then-is-used, else-is-used}
+use Rattle.tables.proofs.further.Further.keeping.Goals.{then-is_used, else-is_used}
 
 pub loop-block-init : goal.loop-block-init
 loop-block-init c = (c.none-left.ensures, omega (arith, ap length c.none-left.ensures))
@@ -35,12 +35,12 @@ loop-block-preserved c =
     let before = filter used (take i xs) in
     let more = filter_more used xs i 0 c.loop-block-test.true in
     elim c.if-is_used.branch [
-      | then-is-used w ↦
+      | then-is_used w ↦
           let grown = ap blocks_in w.left-is ∙ w.with-left.ensures in (
             grown ∙ ap (λ ys. ys ++ x ∷ []) c.loop-block.invariant.0 ∙ ap (λ b. before ++ cond b (x ∷ []) []) (sym (sym c.is_used.ensures ∙ w.if-is_used.true)) ∙ sym more,
             omega (arith, ap length grown, length_push (blocks_in c.loop-block.left) x, c.loop-block.invariant.1),
           )
-      | else-is-used w ↦
+      | else-is_used w ↦
           let same = ap blocks_in w.left-is in (
             same ∙ c.loop-block.invariant.0 ∙ sym (append-nil before) ∙ ap (λ b. before ++ cond b (x ∷ []) []) (sym (sym c.is_used.ensures ∙ w.if-is_used.false)) ∙ sym more,
             omega (arith, ap length same, c.loop-block.invariant.1),
