@@ -158,7 +158,7 @@ module _ (bs : List ℕ) (f : Facts) (hops : ℕ) (e : End) (n : Endpoint) (r : 
         fits = fits_sent x n.port b p e r.tests.fits;
         header = header_right hops e n.address h (length_header bs r.long);
         body = right_sent p e (header_sent hops e n bs) n.port b least_there;
-        own_val = own_sent x n.port b p e r.tests.own;
+        own = own_sent x n.port b p e r.tests.own;
       }
 
   sent_facts : facts_of f.protocol (header_sent hops e n bs) (body_sent hops f.protocol e n bs) ≡ relocated hops e n f

@@ -58,7 +58,7 @@ record Named (y : Payload) (h b : List ℕ) (f : Facts) : Type 0 where
 named_as : (p : Protocol) (h b : List ℕ) (f : Facts) → facts_of p h b ≡ f → is_own p b ≡ true → Named (payload_for p) h b f
 named_as p h b f e own =
     let P : Facts → Type 0 = λ g. Named (payload_for p) h b g in
-    subst P e (record { payload = refl; own_val = own; facts = refl })
+    subst P e (record { payload = refl; own = own; facts = refl })
 
 named : (h b : List ℕ) (f : Facts) (y : Payload) → named_of y h b ≡ Ok (Packet f) → Named y h b f
 named h b f Datagram e = named_as Udp h b f (same_facts (facts_of Udp h b) f e) refl
@@ -122,7 +122,7 @@ was_read bs f e =
         fits = subst (λ v. body_fits v b ≡ true) name.payload t.fits;
         header = t.header;
         body = subst (λ v. body_right v h b ≡ true) name.payload t.body;
-        own_val = name.own;
+        own = name.own;
       };
       facts = name.facts;
     }

@@ -48,8 +48,8 @@ module _ (bs : List ℕ) (x : Notice) (m : message_in bs ≡ Ok (Error x)) where
 pub word_at-requires : goal.word_at-requires
 word_at-requires c = omega (arith, (own c.args.packet.now c.args.notice c.requires).long)
 
-pub slice-bounds-write_header-end : goal.slice-bounds-write_header-end
-slice-bounds-write_header-end c = (own c.args.packet.now c.args.notice c.requires).long
+pub slice_bounds-write_header-end : goal.slice_bounds-write_header-end
+slice_bounds-write_header-end c = (own c.args.packet.now c.args.notice c.requires).long
 
 pub write_header-requires : goal.write_header-requires
 write_header-requires c =
@@ -57,14 +57,14 @@ write_header-requires c =
     let r : ReadError bs c.args.notice.heading = own bs c.args.notice c.requires in
     record { long = length_header bs r.long; version = plain_version (header_of bs) (body_of bs) r.plain; sum = r.header }
 
-pub slice-bounds-write_message-count : goal.slice-bounds-write_message-count
-slice-bounds-write_message-count c = omega (arith, total c.args.packet.now c.args.notice c.requires, c.from-total.ensures, c.word_at.ensures)
+pub slice_bounds-write_message-count : goal.slice_bounds-write_message-count
+slice_bounds-write_message-count c = omega (arith, total c.args.packet.now c.args.notice c.requires, c.from-total.ensures, c.word_at.ensures)
 
-pub slice-bounds-write_message-start : goal.slice-bounds-write_message-start
-slice-bounds-write_message-start c = omega (arith, total c.args.packet.now c.args.notice c.requires, c.from-total.ensures, c.word_at.ensures)
+pub slice_bounds-write_message-start : goal.slice_bounds-write_message-start
+slice_bounds-write_message-start c = omega (arith, total c.args.packet.now c.args.notice c.requires, c.from-total.ensures, c.word_at.ensures)
 
-pub slice-bounds-write_message-end : goal.slice-bounds-write_message-end
-slice-bounds-write_message-end c =
+pub slice_bounds-write_message-end : goal.slice_bounds-write_message-end
+slice_bounds-write_message-end c =
     omega (
       arith,
       all c.args.packet.now c.args.notice c.requires c.args.hops c.args.end c.args.endpoint.address c.from-total.result

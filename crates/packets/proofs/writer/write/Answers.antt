@@ -25,8 +25,8 @@ word_at-requires c = omega (arith, (was_read c.args.packet.now c.args.facts c.re
 pub overflow_sub-count : goal.overflow_sub-count
 overflow_sub-count c = omega (arith, total c.args.packet.now c.args.facts (was_read c.args.packet.now c.args.facts c.requires))
 
-pub slice-bounds-sum_besides-end : goal.slice-bounds-sum_besides-end
-slice-bounds-sum_besides-end c = (was_read c.args.packet.now c.args.facts c.requires).long
+pub slice_bounds-sum_besides-end : goal.slice_bounds-sum_besides-end
+slice_bounds-sum_besides-end c = (was_read c.args.packet.now c.args.facts c.requires).long
 
 pub write_header-requires : goal.write_header-requires
 write_header-requires c =
