@@ -1,10 +1,11 @@
 // count SETTINGS BOOK: prints the most further blocks given at one time, and to how many subscribers.
 use book::book::Book;
 use shell::Trouble;
+use std::process::ExitCode;
 use text::report::count_line;
 
-fn main(rt: HostRuntime) -> Result<(), Trouble> {
-    shell::end(&rt, run(&rt))
+fn main(rt: HostRuntime) -> ExitCode {
+    shell::status(&rt, run(&rt))
 }
 
 fn run(rt: &HostRuntime) -> Result<(), Trouble> {

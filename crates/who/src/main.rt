@@ -3,12 +3,13 @@ use blocks::refusal::Refusal;
 use blocks::settings::Settings;
 use book::book::Book;
 use shell::Trouble;
+use std::process::ExitCode;
 use text::lines::Lines;
 use text::question::{Question, When};
 use text::report::{holder_line, names_line, unknown_line};
 
-fn main(rt: HostRuntime) -> Result<(), Trouble> {
-    shell::end(&rt, run(&rt))
+fn main(rt: HostRuntime) -> ExitCode {
+    shell::status(&rt, run(&rt))
 }
 
 fn run(rt: &HostRuntime) -> Result<(), Trouble> {
