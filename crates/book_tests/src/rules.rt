@@ -46,12 +46,18 @@ fn fault_in(heap: Global, lines: &[Line]) -> Result<Option<(Refusal, usize)>, Fa
     }
 }
 
-fn refused(rt: &impl Abort, heap: Global, lines: &[Line], byte: usize) -> Result<(), Fail> {
+fn refused(
+    rt: &impl Abort,
+    heap: Global,
+    lines: &[Line],
+    byte: usize,
+    rule: &str,
+) -> Result<(), Fail> {
     let Some((cause, at)) = fault_in(heap, lines)? else {
         return Err(Fail::new("read to the end"));
     };
-    assert_eq!(rt; cause, Refusal::CannotFollow);
-    assert_eq!(rt; at, byte);
+    assert_eq!(rt; cause, Refusal::CannotFollow, "{rule}");
+    assert_eq!(rt; at, byte, "{rule}");
     Ok(())
 }
 
@@ -66,20 +72,50 @@ fn givings(rt: HostRuntime) -> Result<(), Fail> {
     let first = given(16, 0, 8, 2);
     accepted(&rt, heap, &[first, given(17, 0, 9, 2)])?;
     accepted(&rt, heap, &[first, given(30, 12, 9, 2)])?;
-    refused(&rt, heap, &[given(u64::MAX, 0, 8, 2)], 0).note("the last moment")?;
-    refused(&rt, heap, &[first, given(16, 0, 9, 2)], 17).note("the same moment")?;
-    refused(&rt, heap, &[given(20, 4, 8, 2), given(30, 3, 9, 2)], 17).note("an earlier tick")?;
-    refused(&rt, heap, &[first, given(30, 14, 9, 2)], 17).note("more ticks than events")?;
-    refused(&rt, heap, &[first, given(30, 0, 10, 2)], 17).note("not the lowest block")?;
-    refused(&rt, heap, &[first, given(30, 0, 8, 3)], 17).note("a block that is given")?;
-    refused(&rt, heap, &[given(30, 0, 8, 8)], 0).note("no subscriber")?;
+    refused(&rt, heap, &[given(u64::MAX, 0, 8, 2)], 0, "the last moment")?;
+    refused(
+        &rt,
+        heap,
+        &[first, given(16, 0, 9, 2)],
+        17,
+        "the same moment",
+    )?;
+    refused(
+        &rt,
+        heap,
+        &[given(20, 4, 8, 2), given(30, 3, 9, 2)],
+        17,
+        "an earlier tick",
+    )?;
+    refused(
+        &rt,
+        heap,
+        &[first, given(30, 14, 9, 2)],
+        17,
+        "more ticks than events",
+    )?;
+    refused(
+        &rt,
+        heap,
+        &[first, given(30, 0, 10, 2)],
+        17,
+        "not the lowest block",
+    )?;
+    refused(
+        &rt,
+        heap,
+        &[first, given(30, 0, 8, 3)],
+        17,
+        "a block that is given",
+    )?;
+    refused(&rt, heap, &[given(30, 0, 8, 8)], 0, "no subscriber")?;
     refused(
         &rt,
         heap,
         &[first, given(17, 0, 9, 2), given(18, 0, 10, 2)],
         34,
+        "more than it may have",
     )
-    .note("more than it may have")
 }
 
 #[test]
@@ -97,30 +133,54 @@ fn takings_back(rt: HostRuntime) -> Result<(), Fail> {
         heap,
         &[first, second, taken(900, 181, 8, 2), taken(901, 182, 9, 3)],
     )?;
-    refused(&rt, heap, &[first, taken(900, 181, 8, 3)], 17).note("another's block")?;
-    refused(&rt, heap, &[first, taken(900, 181, 9, 2)], 17).note("nobody's block")?;
-    refused(&rt, heap, &[first, taken(900, 180, 8, 2)], 17).note("too early")?;
-    refused(&rt, heap, &[first, taken(16, 181, 8, 2)], 17).note("the same moment as a giving")?;
-    refused(&rt, heap, &[first, taken(196, 181, 8, 2)], 17).note("more ticks than events")?;
+    refused(
+        &rt,
+        heap,
+        &[first, taken(900, 181, 8, 3)],
+        17,
+        "another's block",
+    )?;
+    refused(
+        &rt,
+        heap,
+        &[first, taken(900, 181, 9, 2)],
+        17,
+        "nobody's block",
+    )?;
+    refused(&rt, heap, &[first, taken(900, 180, 8, 2)], 17, "too early")?;
+    refused(
+        &rt,
+        heap,
+        &[first, taken(16, 181, 8, 2)],
+        17,
+        "the same moment as a giving",
+    )?;
+    refused(
+        &rt,
+        heap,
+        &[first, taken(196, 181, 8, 2)],
+        17,
+        "more ticks than events",
+    )?;
     refused(
         &rt,
         heap,
         &[first, second, taken(900, 181, 9, 3), taken(900, 181, 8, 2)],
         51,
-    )
-    .note("a lower block")?;
+        "a lower block",
+    )?;
     refused(
         &rt,
         heap,
         &[first, second, taken(900, 181, 8, 2), taken(901, 181, 9, 3)],
         51,
-    )
-    .note("two ticks of one number")?;
+        "two ticks of one number",
+    )?;
     refused(
         &rt,
         heap,
         &[first, second, taken(900, 181, 8, 2), taken(900, 182, 9, 3)],
         51,
+        "one event, two ticks",
     )
-    .note("one event, two ticks")
 }
