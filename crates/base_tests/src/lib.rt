@@ -1,7 +1,9 @@
 // Tests of settings, blocks, input records and text, as tables of cases.
+#![tactic(auto)]
+
 #[cfg(test)]
-mod records;
+mod inputs;
 #[cfg(test)]
 mod settings;
 #[cfg(test)]
-mod text;
+mod texts;

@@ -1,4 +1,6 @@
 // count SETTINGS BOOK: prints the most further blocks given at one time, and to how many subscribers.
+#![tactic(auto)]
+
 use book::book::Book;
 use shell::Trouble;
 use std::process::ExitCode;

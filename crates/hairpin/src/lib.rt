@@ -1,4 +1,6 @@
 // The whole gateway on input records.
+#![tactic(auto)]
+
 mod events;
 pub mod gateway;
 pub mod outcome;

@@ -3,7 +3,7 @@ use Rattle.std.proofs.Common.{◌≡◌, ℕ, List, [], ◌∷◌, Some, None, O
 use Rattle.mappings.specs.declared.line.Change.TheVariants.{Given, TakenBack}
 use Rattle.mappings.specs.declared.line.Line.{Line}
 use Rattle.mappings.specs.States.{fresh}
-use Rattle.std.specs.List.{AllByRecursion as All}
+use Rattle.std.specs.List.{AllByRecursion}
 use Rattle.mappings.specs.Searches.{range, first}
 use Rattle.mappings.specs.Mappings.{is_in, without}
 use Rattle.mappings.specs.Steps.{line_of, holders_left, taken_back}
@@ -11,7 +11,7 @@ use Rattle.mappings.specs.Runs.{state_after, transcript_from, book_from}
 use Rattle.mappings.specs.Books.{who, who_in, holder_after, given_in}
 use Rattle.mappings.specs.Examples.{Right, Worked, row, settings, handed_on, life_and_rest, taken_and_given, WhoAt, WhoInTick, Name, Numbers}
 
-life : All Right life_and_rest
+life : AllByRecursion Right life_and_rest
 unfolding range first is_in without holders_left taken_back state_after transcript_from book_from holder_after given_in
 life = (refl, (refl, (refl, (refl, tt))))
 
@@ -29,7 +29,7 @@ at_moment n a e = ap Name (ap (λ (book : List Line). who settings book 1152 n) 
 in_tick : (t : ℕ) (ns : List ℕ) → who_in settings lines 1152 t ≡ ns → Right (row handed_on (WhoInTick 1152 t) (Numbers ns))
 in_tick t ns e = ap Numbers (ap (λ (book : List Line). who_in settings book 1152 t) its_book ∙ e)
 
-handed : All Right taken_and_given
+handed : AllByRecursion Right taken_and_given
 unfolding lines holder_after given_in
 handed = (at_moment 899 (Some 2) refl, (at_moment 900 None refl, (at_moment 901 (Some 7) refl, (in_tick 181 (2 ∷ 7 ∷ []) refl, tt))))
 

@@ -1,6 +1,6 @@
 -- Worked examples, as rows of one table: what is asked after some events, and the answer.
 use Rattle.std.specs.Prelude.{◌≡◌, ℕ, ◌-◌, Bool, true, false, List, [], ◌∷◌, ◌++◌, map, length, drop, replicate, Some, None, Option}
-use Rattle.std.specs.List.{AllByRecursion as All}
+use Rattle.std.specs.List.{AllByRecursion}
 use Rattle.blocks.specs.Config.{Config}
 use Rattle.blocks.specs.declared.refusal.Refusal.TheVariants.{BadHeader, NoMapping, NotRemembered}
 use Rattle.mappings.specs.declared.event.Protocol.{Protocol}
@@ -128,4 +128,4 @@ abbrev pub table : List (List Row)
 table = first_block ∷ lowest_ports ∷ life_and_rest ∷ new_face ∷ further_block ∷ answers_only ∷ between_subscribers ∷ taken_and_given ∷ []
 
 abbrev pub Worked : Type 0
-Worked = All (All Right) table
+Worked = AllByRecursion (AllByRecursion Right) table

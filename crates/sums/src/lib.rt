@@ -1,4 +1,6 @@
 // Internet sums: 16-bit words added in 32 bits and folded, checked, and moved by what changed.
+#![tactic(auto)]
+
 ghost use Rattle.std.specs.Prelude.{◌≡◌, ◌^◌, ◌<◌, ◌≤◌, length};
 ghost use Rattle.sums.specs.Sums.{moved, ones, right};
 ghost use Rattle.sums.specs.Words.{word_sum};

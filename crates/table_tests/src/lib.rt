@@ -1,4 +1,5 @@
 // Tests of the tables at the borders of what they hold.
+#![tactic(auto)]
 
 #[cfg(test)]
 mod tests {

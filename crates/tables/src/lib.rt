@@ -1,4 +1,6 @@
 // The tables that run: mappings by external port and blocks by subscriber, with the contract that each event does what the definitions say.
+#![tactic(auto)]
+
 mod bits;
 mod further;
 mod mapping;

@@ -1,5 +1,7 @@
 // Reads cases as lines of hexadecimal digits and prints what is read from each packet, and the packet as it is written both ways.
 // A line is an external address and port, an internal address and port, and a packet; one that begins with '#' is printed as it stands.
+#![tactic(auto)]
+
 use blocks::refusal::Refusal;
 use mappings::event::Protocol;
 use packets::facts::{Endpoint, Facts, Heading, Reading};

@@ -1,4 +1,6 @@
 // who SETTINGS BOOK QUESTIONS: answers, for each question, who had a port.
+#![tactic(auto)]
+
 use blocks::refusal::Refusal;
 use blocks::settings::Settings;
 use book::book::Book;

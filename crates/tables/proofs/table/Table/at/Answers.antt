@@ -31,7 +31,7 @@ invariant_of-result c =
       by_subscriber = further.ok.0 ∙ ap length c.in_ok-further.ensures ∙ length-replicate c.subscribers.result c.none.result ∙ c.subscribers.ensures;
       by_block = holders.ok.0 ∙ ap length c.in_ok-holders.ensures ∙ length-replicate {A = Option ℕ} c.blocks-2.result None ∙ c.blocks-2.ensures;
       within = λ n k. subst (λ xs. get_or (get_or xs n []) k 0 < blocks_of (config s)) (sym lists)
-                (subst (λ xs. get_or xs k 0 < blocks_of (config s)) (sym (all_same c.subscribers.result n [])) (some_block s));
+          (subst (λ xs. get_or xs k 0 < blocks_of (config s)) (sym (all_same c.subscribers.result n [])) (some_block s));
       agree = λ b. none_given 63 b ∙ ap is_some (sym (ap (λ xs. get_or xs b None) c.in_ok-holders.ensures ∙ all_same c.blocks-2.result b None));
       room = omega (arith, c.in_ok-lines.ensures.capacity, c.blocks-3.ensures);
     }
