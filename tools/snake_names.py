@@ -97,7 +97,7 @@ def turn(path, text, rows):
     out, at = [], 0
     for m in QUIET.finditer(text):
         out.append(turn_words(text[at : m.start()], rows, behind_dot))
-        words = {old: new for old, new in rows.items() if "-" not in old}
+        words = {old: new for old, new in rows.items() if "-" not in old and new[0].islower()}
         out.append(m[0] if m[0].startswith('"') else re.sub(r"[\w']+", lambda w: words.get(w[0], w[0]), m[0]))
         at = m.end()
     out.append(turn_words(text[at:], rows, behind_dot))

@@ -9,9 +9,11 @@ for crate in blocks mappings sums packets; do
     cp -r "crates/$crate" "$work/crates/"
     rm -rf "$work/crates/$crate/must-fail"
 done
-printf 'blocks:\nmappings: blocks\nsums:\npackets: blocks mappings sums\nmeasured: blocks mappings sums packets\n' > "$work/crates.txt"
+printf 'blocks:\nmappings: blocks\nsums:\npackets: blocks mappings sums\nmeasured staticlib: blocks mappings sums packets\n' > "$work/crates.txt"
 cat > "$work/crates/measured/src/lib.rt" <<'END'
 // For measuring: a packet read and written outwards.
+#![tactic(auto)]
+
 use packets::facts::Endpoint;
 use packets::facts::Reading;
 use packets::reader::read;
@@ -22,13 +24,13 @@ pub extern "C" fn rattle_translate_out(packet: &mut [u8], address: u32, port: u1
     let Ok(Reading::Packet(facts)) = read(packet) else {
         return 0;
     };
-    write_out(packet, facts, Endpoint { address, port });
+    write_out(packet, facts, 1, Endpoint { address, port });
     1
 }
 END
-cd "$work"
-rt staticlib measured > "$work/log" 2>&1 || { cat "$work/log"; exit 1; }
-kit=$(dirname "$(dirname "$(rt doc)")")
+cd "$work/crates/measured"
+rt lib > "$work/log" 2>&1 || { cat "$work/log"; exit 1; }
+kit=$(dirname "$(rt doc)")
 rustc -C opt-level=3 --edition 2021 -o measure "$here/samples/packets/measure.rs" \
-    -L native="$work/target/staticlib" -L native="$kit/lib" -l static=measured -l static=rattle_c
+    -L native="$work/crates/measured/out" -L native="$kit/c" -l static=measured -l static=libc_c -l static=os_c
 ./measure

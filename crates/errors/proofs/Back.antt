@@ -361,7 +361,7 @@ module _ (bs : List ℕ) (f : Facts) (hops : ℕ) (e : End) (n : Endpoint) (smal
       }
 
 pub there_and_back : ThereAndBack
-there_and_back bs error f x hops hopsBack e n small read m s =
+there_and_back bs error f x hops hops_back e n small read m s =
     let p : Protocol = f.protocol in
     let q : List ℕ = quote_in error in
     let N : Endpoint = end_at e f in
@@ -370,8 +370,8 @@ there_and_back bs error f x hops hopsBack e n small read m s =
     let g : Facts = relocated hops e n f in
     let is : x.quote ≡ quote_of_facts g = as_read q out s t.long g x.quote (was_read out g (sending.read_again bs f hops e n read)) t in
     let same : x.quote.protocol ≡ p = ap (λ y. y.protocol) is ∙ same_protocol_lem hops e n f in
-    let quote : quote_in (left hopsBack (Error x) (opposite e) N error) ≡ requoted p e N q =
-    quote_left error x hopsBack (opposite e) N m
+    let quote : quote_in (left hops_back (Error x) (opposite e) N error) ≡ requoted p e N q =
+    quote_left error x hops_back (opposite e) N m
     ∙ (ap (λ z. requoted z (opposite (opposite e)) N q) same ∙ ap (λ d. requoted p d N q) (both_ways e)) in
     let facts : relocated_quote e N (quote_of_facts g) ≡ quote_of_facts f =
     subst (λ k. relocated_quote e (end_at e k) (quote_of_facts (relocated hops e n k)) ≡ quote_of_facts k) (sym (was_read bs f read).facts)
@@ -381,8 +381,8 @@ there_and_back bs error f x hops hopsBack e n small read m s =
     let none : has_no_sum p (body_of q) ≡ true → has_no_sum p (body_of (requoted p e N q)) ≡ true =
     subst (λ z. has_no_sum z (body_of q) ≡ true → has_no_sum z (body_of (requoted z e N q)) ≡ true) same (quote_sums e N q x.quote t).none in
     record {
-      read = read_again error (Error x) hopsBack (opposite e) N m
-          ∙ ap (λ y. Ok (Error (record { heading = relocated_heading hopsBack (opposite e) N.address x.heading; quote = y }))) quoted;
+      read = read_again error (Error x) hops_back (opposite e) N m
+          ∙ ap (λ y. Ok (Error (record { heading = relocated_heading hops_back (opposite e) N.address x.heading; quote = y }))) quoted;
       quotes = subst (λ z. QuotesAgain p z bs) (sym quote) (quotes_again bs f hops e n small read q s t.long (λ _. none));
-      header = (quoted_sums_stay_right error (Error x) hopsBack (opposite e) N m).header;
+      header = (quoted_sums_stay_right error (Error x) hops_back (opposite e) N m).header;
     }

@@ -110,6 +110,6 @@ pub record Returned (f : Facts) (x : Notice) (hops : ℕ) (e : End) (packet erro
 
 abbrev pub ThereAndBack : Type 0
 ThereAndBack =
-    (bs error : List ℕ) (f : Facts) (x : Notice) (hops hopsBack : ℕ) (e : End) (n : Endpoint) → Bytes bs →
+    (bs error : List ℕ) (f : Facts) (x : Notice) (hops hops_back : ℕ) (e : End) (n : Endpoint) → Bytes bs →
     read_of bs ≡ Ok (reading.Packet f) → message_in error ≡ Ok (Error x) → Quotes (quote_in error) (sent hops f.protocol e n bs) →
-    Returned f x hopsBack e bs error (left hopsBack (Error x) (opposite e) (end_at e f) error)
+    Returned f x hops_back e bs error (left hops_back (Error x) (opposite e) (end_at e f) error)

@@ -28,9 +28,9 @@ end_back bs f x r =
     ap {B = Endpoint} (λ q. record { address = f.destination.address; port = q }) port
 
 pub out_and_back : OutAndBack
-out_and_back bs answer f g hops hopsBack external read_out read_answer a = (
-  relocated hopsBack Destination f.source g,
-  read_again answer g hopsBack Destination f.source read_answer,
+out_and_back bs answer f g hops hops_back external read_out read_answer a = (
+  relocated hops_back Destination f.source g,
+  read_again answer g hops_back Destination f.source read_answer,
   record {
     protocol = a.protocol;
     source =

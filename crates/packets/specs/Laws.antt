@@ -64,5 +64,5 @@ pub record Answers (answer packet : Facts) : Type 0 where
 
 abbrev pub OutAndBack : Type 0
 OutAndBack =
-    (bs answer : List ℕ) (f g : Facts) (hops hopsBack : ℕ) (external : Endpoint) → read_of bs ≡ Ok (Packet f) → read_of answer ≡ Ok (Packet g) → Answers g (relocated hops Source external f) →
-    (back : Facts) × (read_of (sent hopsBack g.protocol Destination f.source answer) ≡ Ok (Packet back)) × Answers back f
+    (bs answer : List ℕ) (f g : Facts) (hops hops_back : ℕ) (external : Endpoint) → read_of bs ≡ Ok (Packet f) → read_of answer ≡ Ok (Packet g) → Answers g (relocated hops Source external f) →
+    (back : Facts) × (read_of (sent hops_back g.protocol Destination f.source answer) ≡ Ok (Packet back)) × Answers back f

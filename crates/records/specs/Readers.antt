@@ -4,7 +4,7 @@ use Rattle.blocks.specs.declared.refusal.Refusal.{Refusal}
 use Rattle.blocks.specs.declared.refusal.Refusal.TheVariants.{Malformed}
 use Rattle.records.specs.declared.record.Record.{Record}
 use Rattle.records.specs.declared.record.Record.TheVariants as variant
-use Rattle.records.specs.declared.reader.Front as the-front
+use Rattle.records.specs.declared.reader.Front as the_front
 use Rattle.records.specs.declared.reader.Front.TheVariants as front
 use Rattle.records.specs.Records.{Item, Packet, Tick, Front, End, Fault, Found}
 
@@ -12,7 +12,7 @@ abbrev pub item_of : Record → Item
 item_of (variant.Packet side bytes) = Packet side bytes.now
 item_of variant.Tick = Tick
 
-abbrev pub front_of : the-front.Front → Front
+abbrev pub front_of : the_front.Front → Front
 front_of front.End = End
 front_of front.Fault = Fault
 front_of (front.Found r n) = Found (item_of r) n
@@ -45,7 +45,7 @@ abbrev pub ShortRecord : Record → Type 0
 ShortRecord (variant.Packet side bytes) = length bytes.now ≤ 65535
 ShortRecord variant.Tick = Unit {0}
 
-abbrev pub ShortFront : the-front.Front → Type 0
+abbrev pub ShortFront : the_front.Front → Type 0
 ShortFront front.End = Unit {0}
 ShortFront front.Fault = Unit {0}
 ShortFront (front.Found r n) = ShortRecord r

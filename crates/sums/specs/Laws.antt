@@ -53,7 +53,7 @@ MovedToZero =
     right (before + word_sum bs) ≡ true → rest_sum after xs (2 * k) ≡ 0 →
     moved (word_at bs (2 * k)) (before + g) (after + n) ≡ 0
 
--- 5. Right or wrong, a moved sum is off by cs much cs it was.
+-- 5. Right or wrong, a moved sum is off by as much as it was.
 abbrev pub MovedIsOff : Type 0
 MovedIsOff = (before after c g n : ℕ) → after + g ≡ before + n → (after + moved c g n) % 65535 ≡ (before + c) % 65535
 

@@ -6,7 +6,7 @@ ghost use Rattle.mappings.specs.Searches.{first};
 ghost use Rattle.mappings.specs.States.{block_ports};
 ghost use Rattle.mappings.specs.Steps.{is_used};
 ghost use Rattle.std.specs.List.{flat_map};
-ghost use Rattle.tables.specs.Rows.{slot as meaningOf, slots_of};
+ghost use Rattle.tables.specs.Rows.{slot as meaning_of, slots_of};
 ghost use Rattle.tables.specs.Sought.{passes, passes_at};
 
 use crate::mapping::Mapping;
@@ -23,7 +23,7 @@ pub enum Sought {
 }
 
 fn passes_by(slot: &Option<Mapping>, sought: &Sought, settings: &Settings) -> bool
-    ensures { result ≡ passes (config settings.now) sought.now (meaningOf slot.now) }
+    ensures { result ≡ passes (config settings.now) sought.now (meaning_of slot.now) }
 {
     match (slot, sought) {
         (None, Sought::Free) => true,

@@ -38,7 +38,7 @@ module _ (x : ℕ) (small : x < 2 ^ 32) {text : List ℕ} (whole : text ≡ dott
       pub after_three : (c ≡ x / 256 % 256) × (three ≡ decimal (x % 256))
       after_three = part 46 (omega arith) c (x / 256 % 256) hc (omega arith) third after_two.1
 
--- four numbers IsBelow 256 make one address
+-- four numbers below 256 make one address
 pub dotted_of : (a b c d v : ℕ) → a ≤ 255 → b ≤ 255 → c ≤ 255 → d ≤ 255 → v ≡ a * 16777216 + b * 65536 + c * 256 + d →
     decimal a ++ (46 ∷ (decimal b ++ (46 ∷ (decimal c ++ (46 ∷ decimal d))))) ≡ dotted v
 dotted_of a b c d v ha hb hc hd e =

@@ -1,4 +1,4 @@
-// Addresses as people write them: four numbers IsBelow 256, with dots between.
+// Addresses as people write them: four numbers below 256, with dots between.
 ghost use Rattle.std.specs.Prelude.{◌^◌};
 ghost use Rattle.text.specs.Reading.{ReadsAs, IsBelow, dotted};
 

@@ -3,7 +3,7 @@ ghost use Rattle.blocks.specs.Settings.{config};
 ghost use Rattle.hairpin.specs.Events.{event_of, return_of};
 ghost use Rattle.hairpin.specs.Gateways.{Handled, IsFresh, config_in, lines_in, state_in};
 ghost use Rattle.hairpin.specs.Promise.{Main};
-ghost use Rattle.mappings.specs.declared.event.Event.TheVariants as the-event;
+ghost use Rattle.mappings.specs.declared.event.Event.TheVariants as the_event;
 ghost use Rattle.packets.specs.Reading.{read_of};
 ghost use Rattle.std.specs.Prelude.{◌≡◌, [], IfOk};
 
@@ -54,7 +54,7 @@ impl Gateway {
 
     // A tick, which has no bytes.
     pub fn tick(&mut self) -> Outcome
-        ensures { Handled (config_in self.old) (state_in self.old) 0 the-event.Tick [] self.new result [] }
+        ensures { Handled (config_in self.old) (state_in self.old) 0 the_event.Tick [] self.new result [] }
     {
         outcome(false, self.table.step(&Event::Tick))
     }

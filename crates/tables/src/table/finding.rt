@@ -2,7 +2,7 @@
 ghost use Rattle.std.specs.Prelude.{◌≡◌, ℕ, ◌<◌, ◌≤◌, if◌then◌else◌, Some, nat_lt};
 ghost use Rattle.mappings.specs.Searches.{first};
 ghost use Rattle.mappings.specs.States.{ports_of};
-ghost use Rattle.mappings.specs.Steps.{arrival as arrivalOf, by_face_only, face_of, is_of_protocol, live_and, next_block, remembers};
+ghost use Rattle.mappings.specs.Steps.{arrival as arrival_of, by_face_only, face_of, is_of_protocol, live_and, next_block, remembers};
 ghost use Rattle.tables.specs.Models.{config_of, model};
 ghost use Rattle.tables.specs.Sought.{passes_at};
 
@@ -74,7 +74,7 @@ impl Table {
 
     // What becomes of what comes in: it is delivered, or there is no such mapping, or the mapping has forgotten that address.
     pub(super) fn arrival(&self, packet: &Inward, missing: Refusal, forgotten: Refusal) -> Verdict
-        ensures { result ≡ arrivalOf missing forgotten packet.now.from (live_and (config_of self.now) self.now.tick (is_of_protocol packet.now) ((model self.now).slots packet.now.port)) }
+        ensures { result ≡ arrival_of missing forgotten packet.now.from (live_and (config_of self.now) self.now.tick (is_of_protocol packet.now) ((model self.now).slots packet.now.port)) }
     {
         if packet.port < 1024 {
             return Verdict::Refused(missing);
