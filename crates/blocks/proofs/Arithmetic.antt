@@ -1,9 +1,9 @@
 -- Ports and places, addresses and subscribers, first and further blocks.
-use Rattle.std.proofs.Common.{◌≡◌, ℕ, ◌+◌, ◌-◌, ◌*◌, ◌/◌, ◌%◌, ◌<◌, ◌≤◌, Bool, true, false, cond, ◌&&◌, ltb, leb, ◌⊎◌, Some, None, Option, sym, refl, ap, ◌∙◌, inl, inr, ⊎_elim, mul_comm, arith}
+use Rattle.std.proofs.Common.{◌≡◌, ℕ, ◌+◌, ◌-◌, ◌*◌, ◌/◌, ◌%◌, ◌<◌, ◌≤◌, Bool, true, false, cond, ◌&&◌, ltb, leb, Some, None, sym, refl, ap, ◌∙◌, inl, inr, ⊎_elim, arith}
 use Rattle.std.proofs.lemmas.Nat.{div-add-mod', div_below, div-mul-add, mod_below, mod-mul-add}
 use Rattle.std.proofs.lemmas.Bool.{and_from, and_left, and_parts, and_right, cases_lt, cond-false, cond-true, le-leb, le-ltb, leb-true, lt-leb, lt-ltb, ltb-true}
-use Rattle.blocks.specs.Config.{Config, Good, lowest_port, blocks_of, ports}
-use Rattle.blocks.specs.Ports.{address_of, block_of, first_holder, FirstOrFurther, is_further, offset_of, OneSubscriber, place_of, port_at, port_of, PortsArePlaces, subscriber_at}
+use Rattle.blocks.specs.Config.{Config, lowest_port, blocks_of}
+use Rattle.blocks.specs.Ports.{address_of, block_of, FirstOrFurther, offset_of, OneSubscriber, place_of, port_at, port_of, PortsArePlaces, subscriber_at}
 use Rattle.blocks.specs.declared.place.Place.{Place}
 use Rattle.blocks.proofs.Limits.{Limits, limits, port_small}
 

@@ -1,10 +1,10 @@
 -- Settings that are written are read as the same, and the other way round.
-use Rattle.std.proofs.Common.{◌≡◌, ℕ, ◌+◌, ◌^◌, ◌<◌, ◌≤◌, Bool, true, false, cond, eqb, List, [], ◌++◌, length, drop, Ok, Err, Result, sym, refl, ap, ◌∙◌, arith, take-append-drop}
+use Rattle.std.proofs.Common.{◌≡◌, ℕ, ◌+◌, ◌^◌, ◌<◌, ◌≤◌, Bool, true, false, cond, eqb, List, [], ◌++◌, length, drop, Ok, Err, sym, refl, ap, ◌∙◌, arith, take-append-drop}
 use Rattle.std.proofs.lemmas.List.{drop_all, drop-drop}
 use Rattle.std.proofs.lemmas.Bool.{cond-true, eqb-true}
 use Rattle.blocks.specs.Bytes.{AllBytes, number_at, bytes_of}
-use Rattle.blocks.specs.Config.{Config, Good, within_limits}
-use Rattle.blocks.specs.Settings.{accepted, decoded, settings_bytes, settings_in, SettingsReadBack}
+use Rattle.blocks.specs.Config.{Config, within_limits}
+use Rattle.blocks.specs.Settings.{accepted, decoded, settings_bytes, SettingsReadBack}
 use Rattle.blocks.specs.declared.refusal.Refusal.TheVariants.{Malformed, BadSettings}
 use Rattle.blocks.proofs.BigEndian.{number_bytes_of, bytes_of_number}
 use Rattle.blocks.proofs.Limits.{Limits, limits}

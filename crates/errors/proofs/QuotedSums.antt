@@ -3,7 +3,7 @@ use Rattle.std.proofs.Common.{◌≡◌, ℕ, ◌+◌, ◌*◌, ◌/◌, ◌%◌
 use Rattle.std.proofs.lemmas.List.{length-drop}
 use Rattle.std.proofs.lemmas.Bool.{and_cases, and_parts, and_right, cond_both, cond-false, cond-true, eq-eqb, eqb-false, eqb-true, leb-true, not_from_true}
 use Rattle.sums.specs.Words.{byte_at, word_at, put_word, put_long, word_sum}
-use Rattle.sums.specs.Sums.{moved, ones, right}
+use Rattle.sums.specs.Sums.{moved, ones}
 use Rattle.sums.specs.Laws.{Edit}
 use Rattle.sums.proofs.Carries.{ones_cases}
 use Rattle.sums.proofs.WordSums.{sum_first}

@@ -1,5 +1,5 @@
 -- Packets that were delivered: what is left of them, and which packet they answer.
-use Rattle.std.proofs.Common.{◌≡◌, ℕ, ◌<◌, Bool, true, false, cond, List, [], ◌∷◌, map, Some, None, Ok, unwrap_or, sym, refl, ap, ◌∙◌, subst}
+use Rattle.std.proofs.Common.{◌≡◌, ℕ, ◌<◌, Bool, true, false, List, Some, Ok, unwrap_or, sym, refl, ap, ◌∙◌, subst}
 use mathlib.Core.List.Memᴰ
 use mathlib.Core.List.{Memᴰ}
 use Rattle.blocks.specs.Config.{Config, within_limits}
@@ -30,7 +30,7 @@ use Rattle.packets.proofs.Fresh.{sums_are_fresh}
 use Rattle.records.specs.Records.{Item}
 use Rattle.hairpin.specs.declared.outcome.Outcome.TheVariants as outcome
 use Rattle.hairpin.specs.Passages.{Passage, passage, passages, events, occurrence_in, left_by, rewritten, outcome_of}
-use Rattle.hairpin.specs.Promise.{SentOut, BroughtIn, AnswersTo, Answered, moment}
+use Rattle.hairpin.specs.Promise.{SentOut, BroughtIn, AnswersTo, Answered}
 use Rattle.hairpin.proofs.Transcripts.{run_of_events}
 use Rattle.hairpin.proofs.Tidings as tidings
 use Rattle.hairpin.proofs.Tidings.{Tells, Made, made, all_made}

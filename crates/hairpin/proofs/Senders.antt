@@ -1,17 +1,16 @@
 -- Packets that went out, and those that were refused: what is left of them, and who sent them.
-use Rattle.std.proofs.Common.{◌≡◌, ℕ, Bool, true, false, cond, List, [], ◌∷◌, map, Some, None, Ok, Err, Result, sym, refl, ap, ◌∙◌, subst}
+use Rattle.std.proofs.Common.{◌≡◌, ℕ, Bool, true, false, List, Some, Ok, Err, Result, sym, refl, ap, ◌∙◌, subst}
 use mathlib.Core.List.Memᴰ
 use mathlib.Core.List.{Memᴰ}
 use Rattle.blocks.specs.Config.{Config, within_limits}
 use Rattle.blocks.specs.Ports.{subscriber_at}
 use Rattle.blocks.specs.declared.refusal.Refusal.{Refusal}
 use Rattle.mappings.specs.declared.event.Event.{Event}
-use Rattle.mappings.specs.declared.event.Event.TheVariants as event
 use Rattle.mappings.specs.declared.event.Verdict.{Verdict}
 use Rattle.mappings.specs.declared.event.Verdict.TheVariants as verdict
 use Rattle.mappings.specs.States.{State, fresh}
 use Rattle.mappings.specs.Steps.{Step, step}
-use Rattle.mappings.specs.Runs.{Occurrence, occurrence, run}
+use Rattle.mappings.specs.Runs.{run}
 use Rattle.mappings.specs.Books.{who}
 use Rattle.mappings.specs.Promise.{sender_of}
 use Rattle.mappings.proofs.Options.{none_not_some, true_not_false}
@@ -22,13 +21,12 @@ use Rattle.packets.specs.declared.facts.Endpoint.{Endpoint}
 use Rattle.packets.specs.declared.facts.Facts.{Facts}
 use Rattle.packets.specs.declared.facts.Reading.{Reading}
 use Rattle.packets.specs.declared.facts.Reading.TheVariants as reading
-use Rattle.packets.specs.Laws.{FreshSums, relocated}
+use Rattle.packets.specs.Laws.{FreshSums}
 use Rattle.packets.specs.Reading.{read_of}
 use Rattle.packets.specs.Writing.{sent}
 use Rattle.packets.proofs.Again.{read_again}
 use Rattle.packets.proofs.Fresh.{sums_are_fresh}
 use Rattle.records.specs.Records.{Item}
-use Rattle.hairpin.specs.declared.outcome.Outcome.{Outcome}
 use Rattle.hairpin.specs.declared.outcome.Outcome.TheVariants as outcome
 use Rattle.hairpin.specs.Passages.{Passage, passage, passages, events, book, occurrence_in, left_by, rewritten, outcome_of}
 use Rattle.hairpin.specs.Promise.{SentOut, Traced, Untouched, moment, went_out}

@@ -1,5 +1,5 @@
 -- A packet to our own external address, as it comes in right after it went out.
-use Rattle.std.proofs.Common.{◌≡◌, ℕ, Bool, true, false, cond, eqb, List, [], ◌∷◌, Ok, sym, refl, ap, ◌∙◌, subst}
+use Rattle.std.proofs.Common.{◌≡◌, ℕ, Bool, true, false, eqb, List, ◌∷◌, Ok, sym, refl, ap, ◌∙◌}
 use Rattle.std.proofs.lemmas.Bool.{cond-true, eq-eqb, eqb-true}
 use Rattle.blocks.specs.Config.{Config}
 use Rattle.blocks.specs.declared.refusal.Refusal.TheVariants.{NoMapping}
@@ -23,7 +23,7 @@ use Rattle.packets.proofs.Again.{read_again}
 use Rattle.hairpin.specs.declared.outcome.Outcome.TheVariants as outcome
 use Rattle.hairpin.specs.Events.{accepted, event_of, inward, return_of}
 use Rattle.hairpin.specs.Passages.{Passage, passage, returning, is_to_us, left_by, rewritten, outcome_of, home_of}
-use Rattle.hairpin.specs.Promise.{ComesBack, TurnedOnce}
+use Rattle.hairpin.specs.Promise.{TurnedOnce}
 use Rattle.hairpin.proofs.Tidings as tidings
 use Rattle.hairpin.proofs.Tidings.{Tells, packet_tells}
 use Rattle.hairpin.proofs.Senders.{sender}

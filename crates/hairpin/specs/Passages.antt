@@ -1,5 +1,5 @@
 -- The gateway on bytes: each packet that came, what became of it, and the packet that is left.
-use Rattle.std.specs.Prelude.{ℕ, Bool, true, false, cond, List, [], ◌∷◌, ◌++◌, map, Ok, Err, Result, ◌==◌}
+use Rattle.std.specs.Prelude.{ℕ, Bool, false, cond, List, [], ◌∷◌, ◌++◌, map, Ok, Err, Result, ◌==◌}
 use Rattle.std.specs.Option.{unwrap_or}
 use Rattle.blocks.specs.Config.{Config}
 use Rattle.blocks.specs.Ports.{address_of}
@@ -18,7 +18,6 @@ use Rattle.packets.specs.declared.facts.Reading.{Reading}
 use Rattle.packets.specs.declared.facts.Reading.TheVariants as reading
 use Rattle.packets.specs.Reading.{destination_of, read_of}
 use Rattle.packets.specs.Writing.{sent}
-use Rattle.records.specs.declared.record.Side.{Side}
 use Rattle.records.specs.Records.{Item, Packet, Tick}
 use Rattle.hairpin.specs.declared.outcome.Outcome.{Outcome}
 use Rattle.hairpin.specs.declared.outcome.Outcome.TheVariants as outcome

@@ -1,13 +1,13 @@
 -- What a record at the front takes, and a whole input record by record.
-use Rattle.std.proofs.Common.{◌≡◌, ℕ, zero, suc, ◌+◌, ◌-◌, ◌<◌, ◌≤◌, Bool, true, false, cond, ◌&&◌, eqb, leb, ◌⊎◌, List, [], ◌∷◌, ◌++◌, length, get_or, take, drop, sym, refl, ap, ◌∙◌, subst, inl, inr, ⊎_elim, append_assoc, le_refl, arith, length-drop, take-append-drop, length-take-le, get_or-drop, take-add}
+use Rattle.std.proofs.Common.{◌≡◌, ℕ, zero, suc, ◌+◌, ◌-◌, ◌<◌, ◌≤◌, Bool, true, false, cond, eqb, leb, ◌⊎◌, List, [], ◌∷◌, ◌++◌, length, get_or, take, drop, sym, refl, ap, ◌∙◌, subst, inl, inr, ⊎_elim, append_assoc, le_refl, arith, length-drop, take-append-drop, length-take-le, get_or-drop, take-add}
 use Rattle.std.specs.List.{flat_map}
 use Rattle.std.proofs.lemmas.List.{nil_from_length}
 use Rattle.std.proofs.lemmas.Slice.{between_to_end}
 use Rattle.std.proofs.lemmas.Bool.{and_parts, eqb-true, eqb-false, leb-true}
-use Rattle.blocks.specs.Bytes.{AllBytes, bytes_of, number_at}
+use Rattle.blocks.specs.Bytes.{AllBytes, bytes_of}
 use Rattle.blocks.proofs.BigEndian.{bytes_of_number}
 use Rattle.records.specs.Records.{Item, Packet, Tick, Front, End, Fault, Found, front, is_whole_packet, packet_length, side_of}
-use Rattle.records.specs.Inputs.{before, Input, input_after, input_by, input_of, item_bytes, side_byte, ReadToTheEnd}
+use Rattle.records.specs.Inputs.{Input, input_after, input_by, item_bytes, side_byte, ReadToTheEnd}
 
 -- the slice from a place on is the rest of the input
 pub rest : (bs : List ℕ) (at : ℕ) {f : Front} → f ≡ front (take (length bs - at) (drop at bs)) → f ≡ front (drop at bs)

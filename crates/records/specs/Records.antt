@@ -1,6 +1,6 @@
 -- The input as records: 1, a side, a length and a packet; or 2, a tick.
-use Rattle.std.specs.Prelude.{ℕ, zero, suc, ◌+◌, Bool, cond, ◌&&◌, List, [], ◌∷◌, ◌++◌, length, take, drop, ◌==◌, nat_le, slice_index}
-use Rattle.blocks.specs.Bytes.{bytes_of, number_at}
+use Rattle.std.specs.Prelude.{ℕ, ◌+◌, Bool, cond, ◌&&◌, List, length, take, drop, ◌==◌, nat_le, slice_index}
+use Rattle.blocks.specs.Bytes.{number_at}
 use Rattle.records.specs.declared.record.Side.{Side}
 use Rattle.records.specs.declared.record.Side.TheVariants.{Inside, Outside}
 

@@ -1,6 +1,6 @@
 -- What a table did, said of an equal step.
-use Rattle.std.proofs.Common.{◌≡◌, ℕ, ◌<◌, ◌≤◌, Bool, true, false, cond, ◌||◌, leb, sym, ap, ◌∙◌, subst}
-use Rattle.std.proofs.lemmas.Bool.{cond-false, cond-true, lt-leb, or_from}
+use Rattle.std.proofs.Common.{◌≡◌, ◌<◌, false, leb, sym, ◌∙◌, subst}
+use Rattle.std.proofs.lemmas.Bool.{cond-false, lt-leb, or_from}
 use Rattle.blocks.specs.Config.{Config}
 use Rattle.mappings.specs.declared.event.Event.{Event}
 use Rattle.mappings.specs.declared.event.Verdict.{Verdict}

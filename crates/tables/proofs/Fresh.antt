@@ -1,5 +1,5 @@
 -- Tables in which nothing is yet.
-use Rattle.std.proofs.Common.{◌≡◌, ℕ, zero, suc, ◌-◌, ◌/◌, ◌%◌, ◌^◌, ◌<◌, ◌≤◌, Bool, true, false, cond, eqb, leb, List, [], ◌∷◌, map, length, get_or, replicate, Some, None, Option, sym, refl, ap, ◌∙◌, subst, ⊎_elim, arith}
+use Rattle.std.proofs.Common.{◌≡◌, ℕ, zero, suc, ◌-◌, ◌/◌, ◌%◌, ◌^◌, ◌<◌, ◌≤◌, Bool, true, false, cond, eqb, leb, map, get_or, replicate, None, Option, refl, ap, ◌∙◌, ⊎_elim, arith}
 use Rattle.std.proofs.lemmas.Nat.{shr_le, le-div}
 use Rattle.std.proofs.lemmas.List.{get_or-replicate, get_or_past, length-replicate}
 use Rattle.std.proofs.lemmas.Bool.{cases_lt}
@@ -8,7 +8,6 @@ use Rattle.blocks.specs.Settings.{config}
 use Rattle.blocks.specs.declared.settings.Settings.{Settings}
 use Rattle.blocks.proofs.Limits.{known}
 use Rattle.mappings.specs.Mappings as mappings
-use Rattle.tables.specs.declared.mapping.Mapping.{Mapping}
 use Rattle.tables.specs.Given.{bit, is_given}
 use Rattle.tables.specs.Rows.{slot, slots_of}
 

@@ -1,7 +1,7 @@
 -- Addresses in four parts.
-use Rattle.std.proofs.Common.{◌≡◌, ℕ, ◌+◌, ◌*◌, ◌/◌, ◌%◌, ◌^◌, ◌<◌, ◌≤◌, List, [], ◌∷◌, ◌++◌, decimal, sym, refl, ap, ◌∙◌, subst, arith}
+use Rattle.std.proofs.Common.{◌≡◌, ℕ, ◌+◌, ◌*◌, ◌/◌, ◌%◌, ◌^◌, ◌<◌, ◌≤◌, List, ◌∷◌, ◌++◌, decimal, sym, ◌∙◌, arith}
 use Rattle.std.proofs.lemmas.Fmt.{decimal_injective}
-use Rattle.text.specs.Reading.{ReadsAs, IsBelow, dotted}
+use Rattle.text.specs.Reading.{dotted}
 use Rattle.text.proofs.Decimal.{no_other}
 use Rattle.text.proofs.Separated.{Lacks, lacks_append, lacks_cons, split_once_only}
 

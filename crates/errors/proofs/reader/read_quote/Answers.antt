@@ -1,5 +1,5 @@
 -- The quoted header is the first 20 bytes, and the quoted body the rest.
-use Rattle.std.proofs.Common.{ℕ, ◌-◌, ◌≤◌, leb, List, length, sym, ap, ◌∙◌, arith}
+use Rattle.std.proofs.Common.{ℕ, ◌≤◌, leb, List, length, sym, ap, ◌∙◌, arith}
 use Rattle.std.proofs.lemmas.List.{take_rest}
 use Rattle.std.proofs.lemmas.Bool.{le-leb, cond-true}
 use Rattle.std.proofs.lemmas.Bool.Decides.{nat_tests}

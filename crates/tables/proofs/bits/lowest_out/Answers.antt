@@ -1,5 +1,5 @@
 -- Each block is out, or what is left tells.
-use Rattle.std.proofs.Common.{◌≡◌, ◌+◌, ◌-◌, not, [], sym, ap, ◌∙◌, arith}
+use Rattle.std.proofs.Common.{◌+◌, ◌-◌, not, [], sym, ap, ◌∙◌, arith}
 use Rattle.std.proofs.lemmas.List.{append-nil}
 use Rattle.mappings.specs.Searches.{first, range}
 use Rattle.tables.specs.Given.{is_out}

@@ -1,8 +1,8 @@
 -- The block's bit is set, and no other changes.
-use Rattle.std.proofs.Common.{◌≡◌, ℕ, ◌*◌, ◌/◌, ◌%◌, ◌^◌, ◌<◌, get_or, set, sym, ap, ◌∙◌, subst, arith}
+use Rattle.std.proofs.Common.{◌≡◌, ◌*◌, ◌/◌, ◌%◌, ◌^◌, ◌<◌, get_or, ap, ◌∙◌, arith}
 use lib.Bits.{bit_or}
 use Rattle.std.proofs.lemmas.Nat.{one_shl, mod_below}
-use Rattle.tables.specs.Given.{bit, is_given}
+use Rattle.tables.specs.Given.{bit}
 use Rattle.tables.proofs.Digits.{or_there, or_others, given_there, given_others}
 use Rattle.tables.proofs.bits.put.Goals as goal
 

@@ -1,5 +1,5 @@
 -- What is left to look through tells: in the block at hand, and in the blocks behind it.
-use Rattle.std.proofs.Common.{◌≡◌, ◌+◌, ◌-◌, ◌≤◌, ◌++◌, drop}
+use Rattle.std.proofs.Common.{◌≡◌, ◌+◌, ◌-◌, ◌++◌, drop}
 use Rattle.std.specs.List.{flat_map}
 use Rattle.blocks.specs.Settings.{config}
 use Rattle.mappings.specs.Searches.{first, range}

@@ -1,5 +1,5 @@
 -- The ports of one block.
-use Rattle.std.proofs.Common.{◌≡◌, is_some, ap, ◌∙◌}
+use Rattle.std.proofs.Common.{is_some, ap, ◌∙◌}
 use Rattle.std.proofs.lemmas.List.{append-nil}
 use Rattle.blocks.specs.Settings.{config}
 use Rattle.mappings.specs.Searches.{first}

@@ -1,7 +1,6 @@
 -- Each part of a dotted address is the number that stands there, or there is none.
-use Rattle.std.proofs.Common.{◌≡◌, ℕ, ◌+◌, ◌*◌, ◌/◌, ◌%◌, ◌^◌, ◌<◌, ◌≤◌, ◌∷◌, ◌++◌, decimal, sym, ap, ◌∙◌, subst, arith}
+use Rattle.std.proofs.Common.{◌≡◌, ◌/◌, ◌%◌, ◌≤◌, ◌∷◌, ◌++◌, decimal, sym, ap, ◌∙◌, arith}
 use Rattle.std.proofs.lemmas.Fmt.{decimal_injective}
-use Rattle.text.specs.Reading.{dotted}
 use Rattle.text.proofs.Dotted.{after_one, after_two, after_three, dotted_of}
 use Rattle.text.proofs.address.address.Goals as goal
 

@@ -1,5 +1,5 @@
 -- A number holds no separator, so the first separator ends it.
-use Rattle.std.proofs.Common.{◌^◌, ◌<◌, decimal, arith}
+use Rattle.std.proofs.Common.{◌^◌, decimal, arith}
 use Rattle.text.specs.Reading.{IsBelow}
 use Rattle.text.proofs.Decimal.{no_other}
 use Rattle.text.proofs.Separated.{none_before, not_before, read_before}

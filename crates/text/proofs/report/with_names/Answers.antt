@@ -1,5 +1,5 @@
 -- One name more: a space and its number.
-use Rattle.std.proofs.Common.{◌≡◌, ◌+◌, List, ◌++◌, get_or, drop, string_bytes, codes, decimal, sym, ap, ◌∙◌, append_assoc, append-nil}
+use Rattle.std.proofs.Common.{◌+◌, ◌++◌, get_or, drop, string_bytes, codes, decimal, sym, ap, ◌∙◌, append_assoc, append-nil}
 use Rattle.std.proofs.lemmas.List.{at_drop_more, at_drop_all}
 use Rattle.text.specs.Reports.{more_text}
 use Rattle.text.proofs.report.with_names.Goals as goal

@@ -1,5 +1,5 @@
 -- A port of a block lies below 2^16.
-use Rattle.std.proofs.Common.{◌≡◌, ◌+◌, ◌*◌, ◌<◌, ◌≤◌, ltb, sym, arith}
+use Rattle.std.proofs.Common.{◌≤◌, ltb, sym, arith}
 use Rattle.std.proofs.lemmas.Bool.{cond-false, and_left, le-ltb}
 use Rattle.blocks.specs.Config.{blocks_of}
 use Rattle.blocks.specs.Settings.{config}

@@ -1,5 +1,5 @@
 -- The bytes are each number's, one number after the other.
-use Rattle.std.proofs.Common.{◌≡◌, ℕ, ◌<◌, List, [], ◌∷◌, ◌++◌, ap, ◌∙◌, arith}
+use Rattle.std.proofs.Common.{◌<◌, [], ◌++◌, ap, ◌∙◌, arith}
 use Rattle.blocks.specs.Bytes.{bytes_of}
 use Rattle.blocks.specs.Settings.{config}
 use Rattle.blocks.proofs.BigEndian.{one, two, four}

@@ -1,5 +1,5 @@
 -- The new block stands behind the others.
-use Rattle.std.proofs.Common.{◌≡◌, ℕ, ◌+◌, ◌<◌, ◌∷◌, ◌++◌, length, take, sym, ap, ◌∙◌, arith}
+use Rattle.std.proofs.Common.{arith}
 use Rattle.std.proofs.lemmas.List.{take_more_set, length-take}
 use Rattle.tables.proofs.further.Further.with.Goals as goal
 

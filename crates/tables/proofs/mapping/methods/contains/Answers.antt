@@ -1,5 +1,5 @@
 -- Each address is the one, or the rest tells.
-use Rattle.std.proofs.Common.{◌≡◌, ◌+◌, ◌<◌, List, [], ◌∷◌, length, get_or, drop, sym, refl, ap, ◌∙◌, arith}
+use Rattle.std.proofs.Common.{◌+◌, get_or, drop, sym, ◌∙◌}
 use Rattle.std.proofs.lemmas.List.{at_drop_more, at_drop_all}
 use Rattle.mappings.specs.Mappings.{is_in}
 use Rattle.tables.proofs.Remembering.{in_none, in_here, in_later}

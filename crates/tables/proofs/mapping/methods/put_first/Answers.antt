@@ -1,5 +1,5 @@
 -- Each turn sets down what is carried, and stops at the address or takes up what was there.
-use Rattle.std.proofs.Common.{◌≡◌, ◌-◌, ◌≤◌, [], ◌∷◌, ◌++◌, length, take, drop, sym, ap, ◌∙◌, arith}
+use Rattle.std.proofs.Common.{◌≡◌, ◌-◌, [], ◌∷◌, ◌++◌, length, take, drop, sym, ap, ◌∙◌, arith}
 use Rattle.std.proofs.lemmas.List.{append-nil, take_all}
 use Rattle.mappings.specs.Mappings.{without}
 use Rattle.tables.proofs.Remembering.{carry_stops, carry_goes}

@@ -1,13 +1,10 @@
 -- The lists are as long as they should be, and nothing is in them.
-use Rattle.std.proofs.Common.{◌≡◌, ℕ, ◌<◌, ◌≤◌, List, [], ◌∷◌, map, length, get_or, replicate, is_some, None, vec_items, vec_len, vec_capacity, Option, sym, refl, ap, ◌∙◌, subst, arith}
+use Rattle.std.proofs.Common.{◌≡◌, ℕ, ◌<◌, [], map, length, get_or, replicate, is_some, None, vec_items, Option, sym, refl, ap, ◌∙◌, subst, arith}
 use Rattle.tables.specs.declared.mapping.Mapping.{Mapping}
 use Rattle.std.proofs.lemmas.List.{length-replicate}
 use Rattle.std.proofs.lemmas.Result.{IfOk-from_err}
 use Rattle.blocks.specs.Config.{blocks_of}
 use Rattle.blocks.specs.Settings.{config}
-use Rattle.blocks.proofs.Limits.{known}
-use Rattle.tables.specs.Given.{is_given}
-use Rattle.tables.specs.Models.{Began, fresh_at}
 use Rattle.tables.specs.Rows.{blocks_in}
 use Rattle.tables.proofs.Fresh.{all_same, none_given, no_slot, map_replicate, some_block}
 use Rattle.tables.proofs.table.Table.at.Goals as goal

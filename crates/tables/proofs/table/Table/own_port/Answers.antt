@@ -1,13 +1,13 @@
 -- The subscriber's first block and its further ones are what is looked through.
-use Rattle.std.proofs.Common.{◌≡◌, ℕ, ◌+◌, ◌-◌, ◌<◌, List, ◌∷◌, length, get_or, take, vec_items, sym, refl, ap, ◌∙◌, subst, arith}
+use Rattle.std.proofs.Common.{◌+◌, ◌-◌, ◌<◌, ◌∷◌, get_or, take, vec_items, sym, ap, ◌∙◌, subst, arith}
 use Rattle.std.specs.List.{flat_map}
 use Rattle.blocks.specs.Config.{blocks_of}
 use Rattle.mappings.specs.Searches.{first}
-use Rattle.mappings.specs.States.{block_ports, further_of}
+use Rattle.mappings.specs.States.{block_ports}
 use Rattle.mappings.proofs.Firsts.{first_some}
 use Rattle.mappings.proofs.Ports.{good, port_block}
 use Rattle.tables.specs.Models.{config_of, model}
-use Rattle.tables.specs.Rows.{blocks_in, slots_of}
+use Rattle.tables.specs.Rows.{slots_of}
 use Rattle.tables.specs.Sought.{passes_at}
 use Rattle.tables.proofs.Own.{own_part, own_within, row_read}
 use Rattle.tables.proofs.table.Table.own_port.Goals as goal

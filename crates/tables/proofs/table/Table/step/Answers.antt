@@ -1,5 +1,5 @@
 -- The run is over, or the event is handled as its kind is.
-use Rattle.std.proofs.Common.{◌≡◌, sym, refl, ap, ◌∙◌, arith}
+use Rattle.std.proofs.Common.{sym, ap, ◌∙◌, arith}
 use Rattle.std.proofs.lemmas.Bool.{cond-false, cond-true, le-leb, lt-leb}
 use Rattle.mappings.specs.Steps.{exhausted, handled, last_tick, only, ticked}
 use Rattle.tables.specs.Models.{config_of, model}
