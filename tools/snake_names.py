@@ -40,6 +40,9 @@ OTHERWISE = {
     "given_to": "given_to_lem",
 }
 
+# Names that no definition declares: a variable, and names by which a clause calls what it imports.
+BESIDES = ("arrivalOf", "goesOf", "hopsBack", "meaningOf", "the-event", "the-front")
+
 # Types that were spelled as functions, by crate.
 TYPES = {"text": {"below": "IsBelow", "up_to": "IsUpTo"}}
 
@@ -74,7 +77,7 @@ def table(top):
                 own.add(m[1])
         for m in SEVERAL.finditer(text):
             own.update(m[1].split())
-    rows = {it: OTHERWISE.get(it, snake(it)) for it in own - made}
+    rows = {it: OTHERWISE.get(it, snake(it)) for it in (own - made).union(BESIDES)}
     return {old: new for old, new in rows.items() if old != new}
 
 
