@@ -34,6 +34,13 @@ def udp(source, sport, destination, dport, payload):
     return ipv4(source, destination, 17, body)
 
 
+def unreachable(source, quoted):
+    """The error "destination unreachable" about a packet that our external address sent."""
+    body = struct.pack("!BBHI", 3, 1, 0, 0) + quoted
+    body = body[:2] + struct.pack("!H", 0xFFFF - total(body)) + body[4:]
+    return ipv4(address(source), quoted[12:16], 1, body)
+
+
 def packet(side, data):
     return struct.pack("!BBH", 1, side, len(data)) + data
 
@@ -53,6 +60,8 @@ records = [
     packet(INSIDE, udp("10.0.0.1", 6000, OURS, 1056, b"two!")),
     # sixteen more ports of subscriber 2: its first block is full, and the last goes by a further one
     *[packet(INSIDE, udp("10.0.0.2", 5001 + i, SERVER, 53, b"?")) for i in range(16)],
+    # a router says that the last one did not arrive
+    packet(OUTSIDE, unreachable("198.51.100.1", udp(OURS, 1152, SERVER, 53, b"?"))),
     # when its life and its rest have passed, the further block is taken back
     *[TICK] * 181,
 ]
@@ -61,7 +70,7 @@ questions = [
     "203.0.113.1 1152 moment 22",
     "203.0.113.1 1152 moment 23",
     "203.0.113.1 1152 tick 1",
-    "203.0.113.1 1152 moment 204",
+    "203.0.113.1 1152 moment 205",
     "203.0.113.1 1023 moment 4",
     "198.51.100.7 1056 moment 4",
 ]

@@ -90,18 +90,18 @@ udp = lambda w: ip() / UDP(sport=5000, dport=53) / Raw(words(w) + b"abc")
 case("udp-sum-65535", "udp", until(udp, lambda p: body_word(p, 6) == 65535))
 
 
-def moved(packet, external):
+def moved(packet, layer, external):
     """What scapy makes of the packet with another source."""
     p = IP(raw(packet))
-    p.src, p[UDP].sport = external
+    p.src, p[layer].sport = external
     p.ttl -= 1
-    del p.chksum, p[UDP].chksum
+    del p.chksum, p[layer].chksum
     return p
 
 
 # only the source port and the source address decide here, so the port is what is looked for
 zero = next(port for port in range(1024, 65536)
-            if body_word(moved(ip() / UDP(sport=5000, dport=53) / Raw(b"to zero"), ("192.0.2.1", port)), 6) == 65535)
+            if body_word(moved(ip() / UDP(sport=5000, dport=53) / Raw(b"to zero"), UDP, ("192.0.2.1", port)), 6) == 65535)
 case("udp-sum-becomes-65535", "udp", ip() / UDP(sport=5000, dport=53) / Raw(b"to zero"), external=("192.0.2.1", zero))
 
 # TCP
@@ -118,18 +118,8 @@ tcp = lambda w: ip() / TCP(sport=40003, dport=25, seq=w)
 nought = until(tcp, lambda p: body_word(p, 16) == 0)
 case("tcp-sum-0", "tcp", nought)
 case("tcp-sum-0-spelled-65535", "tcp", with_sum(nought, 16, 65535))
-
-
-def resent(packet, external):
-    p = IP(raw(packet))
-    p.src, p[TCP].sport = external
-    p.ttl -= 1
-    del p.chksum, p[TCP].chksum
-    return p
-
-
 nought = next(port for port in range(1024, 65536)
-              if body_word(resent(ip() / TCP(sport=40004, dport=25), ("192.0.2.1", port)), 16) == 0)
+              if body_word(moved(ip() / TCP(sport=40004, dport=25), TCP, ("192.0.2.1", port)), 16) == 0)
 case("tcp-sum-becomes-0", "tcp", ip() / TCP(sport=40004, dport=25), external=("192.0.2.1", nought))
 
 # echoes
@@ -180,7 +170,7 @@ case("unknown-protocol-with-wrong-sum", "refused 4", damaged(ip(proto=47) / Raw(
 # refused with 5
 case("gre", "refused 5", ip(proto=47) / Raw(bytes(8)))
 case("unknown-protocol-alone", "refused 5", ip(proto=99))
-case("timestamp", "refused 5", ip() / ICMP(type=13))
+case("timestamp", "refused 5", ip() / ICMP(type=13, ts_ori=0x04e1219e, ts_rx=0x04e1219e, ts_tx=0x04e1219e))
 case("redirect", "refused 5", ip() / ICMP(type=5) / Raw(quoted))
 case("echo-code-1", "refused 5", ip() / ICMP(type=8, code=1, id=1))
 

@@ -1,8 +1,7 @@
 #!/usr/bin/python3
-"""Makes the settings and the input on which the gate runs `gateway`, with scapy (Debian: python3-scapy).
+"""The settings and the first part of the input on which the gate runs `gateway`, made with scapy (Debian: python3-scapy).
 
-Run from the repository's root: /usr/bin/python3 samples/run/make.py
-It writes crates/gateway/data/settings and crates/gateway/data/input.
+samples/errors/make.py adds the second part, and writes both.
 """
 import random
 import struct
@@ -96,7 +95,7 @@ def refused():
     for at in range(10, 28):
         put(INSIDE, damaged(good, at))
     put(INSIDE, IP(src=subscriber(0), dst=SERVERS[0]) / GRE())
-    put(INSIDE, IP(src=subscriber(0), dst=SERVERS[0]) / ICMP(type=13))
+    put(INSIDE, IP(src=subscriber(0), dst=SERVERS[0]) / ICMP(type=13, ts_ori=85687400, ts_rx=85687400, ts_tx=85687400))
     put(INSIDE, udp("10.0.0.8", 5000, SERVERS[0], 53))
     put(INSIDE, udp("10.0.0.8", 5000, SERVERS[0], 53, ttl=1))
     for ttl in (0, 1, 2):
@@ -130,6 +129,3 @@ talk()
 ticks(2)
 
 settings = bytes(map(int, OURS.split("."))) + bytes([10, 0, 0, 0]) + struct.pack("!HHBHH", 8, 16, 4, 120, 60)
-for name, data in [("settings", settings), ("input", b"".join(records))]:
-    with open(f"crates/gateway/data/{name}", "wb") as file:
-        file.write(data)

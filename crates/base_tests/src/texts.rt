@@ -1,7 +1,7 @@
 // Questions, addresses and numbers as they may and may not be written.
-use text::address::address;
-use text::number::number;
-use text::question::Question;
+use questions::address::address;
+use questions::number::number;
+use questions::question::Question;
 
 const NUMBERS: [(&str, Option<u64>); 9] = [
     ("0", Some(0)),

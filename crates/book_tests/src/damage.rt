@@ -2,7 +2,7 @@
 use blocks::refusal::Refusal;
 use blocks::settings::Settings;
 use book::book::Book;
-use book::line::{front_line, line_bytes};
+use lines::line::{front_line, line_bytes};
 use std::alloc::Global;
 use std::test::Fail;
 

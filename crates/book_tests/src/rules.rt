@@ -2,7 +2,7 @@
 use blocks::refusal::Refusal;
 use blocks::settings::Settings;
 use book::book::Book;
-use book::line::line_bytes;
+use lines::line::line_bytes;
 use mappings::line::{Change, Line};
 use std::alloc::Global;
 use std::process::Abort;

@@ -1,5 +1,5 @@
-pub mod Transcripts
+-- The lemmas, lowest first.
 pub mod Tidings
-pub mod Senders
-pub mod Arrivals
-pub mod Turns
+pub mod Turned
+pub mod Handling
+pub mod Few

@@ -1,99 +1,104 @@
--- What the event of a passage tells of its bytes.
-use Rattle.std.proofs.Common.{◌≡◌, ℕ, Bool, true, false, cond, eqb, leb, List, [], ◌∷◌, map, Some, None, Ok, Err, Option, Result, sym, refl, subst, inl, inr}
-use mathlib.Core.List.Memᴰ
-use mathlib.Core.List.{Memᴰ}
-use Rattle.std.proofs.lemmas.Bool.{eqb-true}
+-- What the event of an arrival tells of its bytes.
+use Rattle.std.proofs.Common.{◌≡◌, ℕ, Bool, true, false, cond, ◌&&◌, eqb, leb, List, Some, None, Ok, Err, Option, Result, refl, ap}
+use Rattle.std.proofs.lemmas.Bool.{and_parts, eqb-true}
+use Rattle.std.specs.Result.{result_ok}
 use Rattle.blocks.specs.Config.{Config}
 use Rattle.blocks.specs.Ports.{subscriber_at}
 use Rattle.blocks.specs.declared.refusal.Refusal.{Refusal}
 use Rattle.blocks.specs.declared.refusal.Refusal.TheVariants.{NoSubscriber, NoMapping, UnrelatedError, Expired}
 use Rattle.mappings.specs.declared.event.Event.{Event}
 use Rattle.mappings.specs.declared.event.Event.TheVariants as event
-use Rattle.mappings.specs.States.{State}
-use Rattle.mappings.specs.Steps.{step}
-use Rattle.mappings.specs.Runs.{state_after}
-use Rattle.packets.specs.declared.facts.Facts.{Facts}
-use Rattle.packets.specs.declared.facts.Reading.{Reading}
-use Rattle.packets.specs.declared.facts.Reading.TheVariants as reading
-use Rattle.packets.specs.Reading.{read_of, source_of, ttl_of}
+use Rattle.mappings.specs.declared.event.Inward.{Inward}
+use Rattle.mappings.specs.declared.event.Outward.{Outward}
+use Rattle.mappings.specs.Promise.{inward_of, sender_of}
+use Rattle.mappings.proofs.Options.{none_not_some}
+use Rattle.packets.specs.declared.facts.End.TheVariants.{Source, Destination}
+use Rattle.errors.specs.declared.notice.Message.{Message}
+use Rattle.errors.specs.declared.notice.Message.TheVariants as message
+use Rattle.errors.specs.Messages.{message_destination, message_in, message_source, message_ttl}
 use Rattle.records.specs.declared.record.Side.{Side}
 use Rattle.records.specs.declared.record.Side.TheVariants.{Inside, Outside}
-use Rattle.records.specs.Records.{Item, Packet, Tick}
-use Rattle.hairpin.specs.declared.outcome.Outcome.{Outcome}
-use Rattle.hairpin.specs.declared.outcome.Outcome.TheVariants.{Out, In, Turned, Refused, Ticked}
-use Rattle.hairpin.specs.Events.{accepted, arriving, event_of, from_subscriber, inward, outward, return_of}
-use Rattle.hairpin.specs.Passages.{Passage, passage, returning, passages_of, passages_from, event_in}
+use Rattle.records.specs.Records.{Packet, Tick}
+use Rattle.hairpin.specs.Events.{Arrival, Enters, Returns, accepted, arriving, bytes_in, end_in, event_of, from_subscriber, inward, outward, told_by, words_in, words_out}
 
--- an event that some bytes make, their time to live falling by some hops: nothing, a subscriber's packet, a packet to us; or a tick, which has no bytes
-pub data Tells (c : Config) : ℕ → List ℕ → Event → Type 0 where
-  nothing : {hops : ℕ} {bs : List ℕ} (r : Refusal) → Tells c hops bs (event.Unreadable r)
-  goes : {bs : List ℕ} (n : ℕ) (f : Facts) → read_of bs ≡ Ok (reading.Packet f) → subscriber_at c f.source.address ≡ Some n →
-      Tells c 1 bs (event.Goes (record { subscriber = n; protocol = f.protocol; port = f.source.port; to = f.destination.address }))
-  comes : {hops : ℕ} {bs : List ℕ} (f : Facts) → read_of bs ≡ Ok (reading.Packet f) → f.destination.address ≡ c.external →
-      Tells c hops bs (event.Comes (record { protocol = f.protocol; port = f.destination.port; from = f.source.address }))
-  ticks : Tells c 0 [] event.Tick
+-- what returns is read as it is said to be
+abbrev pub Known : Arrival → Type 0
+Known (Enters item) = Unit {0}
+Known (Returns m bs) = message_in bs ≡ Ok m
 
-module _ (c : Config) (bs : List ℕ) where
-  inward_tells : (hops : ℕ) (r : Reading) → read_of bs ≡ Ok r → Tells c hops bs (inward c r)
-  inward_tells hops (reading.Packet f) read = go (eqb f.destination.address c.external) refl
-    where
-      go : (b : Bool) → eqb f.destination.address c.external ≡ b →
-          Tells c hops bs (cond b (event.Comes (record { protocol = f.protocol; port = f.destination.port; from = f.source.address })) (event.Unreadable NoMapping))
-      go true e = comes f read (eqb-true f.destination.address c.external e)
-      go false e = nothing NoMapping
-  inward_tells hops (reading.Error h) read = nothing UnrelatedError
+-- the event of a packet, and that of an error
+abbrev pub goes_as : Message → Outward → Event
+goes_as (message.Packet f) o = event.Goes o
+goes_as (message.Error x) o = event.ErrorGoes o
 
-  outward_tells : (n : ℕ) (r : Reading) → read_of bs ≡ Ok r → subscriber_at c (source_of r) ≡ Some n → Tells c 1 bs (outward n r)
-  outward_tells n (reading.Packet f) read its = goes n f read its
-  outward_tells n (reading.Error h) read its = nothing UnrelatedError
+abbrev pub comes_as : Message → Inward → Event
+comes_as (message.Packet f) i = event.Comes i
+comes_as (message.Error x) i = event.ErrorComes i
 
-  -- what has no time to live left tells nothing
-  admitted_tells : (go : Reading → Event) (r : Reading) → Tells c 1 bs (go r) → (expired : Bool) → Tells c 1 bs (accepted go (cond expired (Err Expired) (Ok r)))
-  admitted_tells go r t true = nothing Expired
-  admitted_tells go r t false = t
+-- an event tells nothing, or of what a subscriber sends, or of what comes to us; or it is a tick, which has no bytes
+pub data Tells (c : Config) : Arrival → Event → Type 0 where
+  nothing : {a : Arrival} (r : Refusal) → Tells c a (event.Unreadable r)
+  goes : {bs : List ℕ} (n : ℕ) (m : Message) → message_in bs ≡ Ok m → subscriber_at c (message_source m) ≡ Some n → (end_in Source m).address ≡ message_source m →
+      Tells c (Enters (Packet Inside bs)) (goes_as m (words_out n m))
+  comes : {a : Arrival} (m : Message) → told_by a ≡ Some m → message_in (bytes_in a) ≡ Ok m → message_destination m ≡ c.external → (end_in Destination m).address ≡ c.external →
+      Tells c a (comes_as m (words_in m))
+  ticks : Tells c (Enters Tick) event.Tick
 
-  from_tells : (r : Reading) → read_of bs ≡ Ok r → (o : Option ℕ) → subscriber_at c (source_of r) ≡ o → Tells c 1 bs (from_subscriber o r)
-  from_tells r read None e = nothing NoSubscriber
-  from_tells r read (Some n) e = admitted_tells (outward n) r (outward_tells n r read e) (leb (ttl_of r) 1)
+-- the parts of the event's definition, each by its cases
+inward_tells : (c : Config) (a : Arrival) (m : Message) → told_by a ≡ Some m → message_in (bytes_in a) ≡ Ok m → Tells c a (inward c m)
+inward_tells c a (message.Packet f) told read = go (eqb f.destination.address c.external) refl
+  where
+    go : (b : Bool) → eqb f.destination.address c.external ≡ b → Tells c a (cond b (event.Comes (words_in (message.Packet f))) (event.Unreadable NoMapping))
+    go true e = let ours = eqb-true f.destination.address c.external e in comes (message.Packet f) told read ours ours
+    go false e = nothing NoMapping
+inward_tells c a (message.Error x) told read = go (eqb x.heading.destination c.external && eqb x.quote.source.address c.external) refl
+  where
+    go : (b : Bool) → (eqb x.heading.destination c.external && eqb x.quote.source.address c.external) ≡ b →
+        Tells c a (cond b (event.ErrorComes (words_in (message.Error x))) (event.Unreadable UnrelatedError))
+    go true e =
+        let both = and_parts (eqb x.heading.destination c.external) (eqb x.quote.source.address c.external) e in
+        comes (message.Error x) told read (eqb-true x.heading.destination c.external both.0) (eqb-true x.quote.source.address c.external both.1)
+    go false e = nothing UnrelatedError
 
-  arriving_tells : (side : Side) (r : Reading) → read_of bs ≡ Ok r → Tells c 1 bs (arriving c side r)
-  arriving_tells Inside r read = from_tells r read (subscriber_at c (source_of r)) refl
-  arriving_tells Outside r read = admitted_tells (inward c) r (inward_tells 1 r read) (leb (ttl_of r) 1)
+outward_tells : (c : Config) (bs : List ℕ) (n : ℕ) (m : Message) → message_in bs ≡ Ok m → subscriber_at c (message_source m) ≡ Some n → Tells c (Enters (Packet Inside bs)) (outward n m)
+outward_tells c bs n (message.Packet f) read its = goes n (message.Packet f) read its refl
+outward_tells c bs n (message.Error x) read its = go (eqb x.quote.destination.address x.heading.source) refl
+  where
+    go : (b : Bool) → eqb x.quote.destination.address x.heading.source ≡ b →
+        Tells c (Enters (Packet Inside bs)) (cond b (event.ErrorGoes (words_out n (message.Error x))) (event.Unreadable UnrelatedError))
+    go true e = goes n (message.Error x) read its (eqb-true x.quote.destination.address x.heading.source e)
+    go false e = nothing UnrelatedError
 
-  accepted_tells : (hops : ℕ) (go : Reading → Event) → ((r : Reading) → read_of bs ≡ Ok r → Tells c hops bs (go r)) → (q : Result Reading Refusal) → read_of bs ≡ q → Tells c hops bs (accepted go q)
-  accepted_tells hops go t (Ok r) e = t r e
-  accepted_tells hops go t (Err x) e = nothing x
+-- what has no time to live left tells nothing
+admitted_tells : (c : Config) (a : Arrival) (go : Message → Event) (m : Message) → Tells c a (go m) → (expired : Bool) → Tells c a (accepted go (cond expired (Err Expired) (Ok m)))
+admitted_tells c a go m t true = nothing Expired
+admitted_tells c a go m t false = t
 
-  pub packet_tells : (side : Side) → Tells c 1 bs (event_of c side bs)
-  packet_tells side = accepted_tells 1 (arriving c side) (arriving_tells side) (read_of bs) refl
+from_tells : (c : Config) (bs : List ℕ) (m : Message) → message_in bs ≡ Ok m → (o : Option ℕ) → subscriber_at c (message_source m) ≡ o → Tells c (Enters (Packet Inside bs)) (from_subscriber o m)
+from_tells c bs m read None e = nothing NoSubscriber
+from_tells c bs m read (Some n) e = admitted_tells c (Enters (Packet Inside bs)) (outward n) m (outward_tells c bs n m read e) (leb (message_ttl m) 1)
 
-  pub return_tells : Tells c 0 bs (return_of c bs)
-  return_tells = accepted_tells 0 (inward c) (inward_tells 0) (read_of bs) refl
+arriving_tells : (c : Config) (bs : List ℕ) (side : Side) (m : Message) → message_in bs ≡ Ok m → Tells c (Enters (Packet side bs)) (arriving c side m)
+arriving_tells c bs Inside m read = from_tells c bs m read (subscriber_at c (message_source m)) refl
+arriving_tells c bs Outside m read =
+    let a : Arrival = Enters (Packet Outside bs) in
+    admitted_tells c a (inward c) m (inward_tells c a m (ap result_ok read) read) (leb (message_ttl m) 1)
 
--- every passage of a run is made by an event that tells of its bytes
-pub data Made (c : Config) : Passage → Type 0 where
-  made : (s : State) (hops : ℕ) (e : Event) (bs : List ℕ) → Tells c hops bs e → Made c (passage c s hops e bs)
+packet_tells : (c : Config) (bs : List ℕ) (side : Side) (q : Result Message Refusal) → message_in bs ≡ q → Tells c (Enters (Packet side bs)) (accepted (arriving c side) q)
+packet_tells c bs side (Ok m) e = arriving_tells c bs side m e
+packet_tells c bs side (Err x) e = nothing x
 
-returning_made : (c : Config) (s : State) (bs : List ℕ) (o : Outcome) (x : Passage) → Memᴰ x (returning c s bs o) → Made c x
-returning_made c s bs Out x j = elim j [ ]
-returning_made c s bs In x j = elim j [ ]
-returning_made c s bs Turned x j = subst (λ y. Made c y) (sym (Memᴰ.eq_of_singleton j)) (made s 0 (return_of c bs) bs (return_tells c bs))
-returning_made c s bs (Refused r) x j = elim j [ ]
-returning_made c s bs Ticked x j = elim j [ ]
+pub tells : (c : Config) (a : Arrival) → Known a → Tells c a (event_of c a)
+tells c (Enters (Packet side bs)) k = packet_tells c bs side (message_in bs) refl
+tells c (Enters Tick) k = ticks
+tells c (Returns m bs) k = inward_tells c (Returns m bs) m refl k
 
-item_made : (c : Config) (s : State) (i : Item) (x : Passage) → Memᴰ x (passages_of c s i) → Made c x
-item_made c s (Packet side bs) x j = elim (Memᴰ.cases_cons j) [
-  | inl e ↦ subst (λ y. Made c y) (sym e) (made s 1 (event_of c side bs) bs (packet_tells c bs side))
-  | inr k ↦
-      let y : Passage = passage c s 1 (event_of c side bs) bs in
-      returning_made c (step c (event_of c side bs) s).state y.left y.outcome x k
-]
-item_made c s Tick x j = subst (λ y. Made c y) (sym (Memᴰ.eq_of_singleton j)) (made s 0 event.Tick [] ticks)
+-- what comes to us has no sender
+pub no_sender : (m : Message) (i : Inward) {n : ℕ} {P : Type 0} → sender_of (comes_as m i) ≡ Some n → P
+no_sender (message.Packet f) i h = none_not_some h
+no_sender (message.Error x) i h = none_not_some h
 
-pub all_made : (c : Config) (s : State) (is : List Item) (x : Passage) → Memᴰ x (passages_from c s is) → Made c x
-unfolding passages_from
-all_made c s [] x j = elim j [ ]
-all_made c s (i ∷ is) x j = elim (Memᴰ.append_cases (passages_of c s i) j) [
-  | inl k ↦ item_made c s i x k
-  | inr k ↦ all_made c (state_after c s (map event_in (passages_of c s i))) is x k
-]
+-- and what is sent by a subscriber does not come in
+pub no_inward : (m : Message) (o : Outward) {i : Inward} {P : Type 0} → inward_of (goes_as m o) ≡ Some i → P
+no_inward (message.Packet f) o h = none_not_some h
+no_inward (message.Error x) o h = none_not_some h

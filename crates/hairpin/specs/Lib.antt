@@ -1,4 +1,4 @@
+pub mod Outcomes
 pub mod Events
 pub mod Passages
-pub mod Promise
 pub mod Gateways

@@ -1,92 +1,116 @@
-// From what was read of a packet to the event that it makes.
+// From what was read of a message to the event that it makes.
 ghost use Rattle.blocks.specs.Settings.{config};
-ghost use Rattle.hairpin.specs.Events.{accepted, arriving, from_subscriber, inward, outward, to_address};
+ghost use Rattle.errors.specs.declared.notice.Message.TheVariants as the-message;
+ghost use Rattle.hairpin.specs.Events.{accepted, arriving, from_subscriber, inward, outward};
 ghost use Rattle.std.specs.Prelude.{◌≡◌};
 
 use blocks::refusal::Refusal;
 use blocks::settings::Settings;
+use errors::notice::{Message, Notice};
 use mappings::event::{Event, Inward, Outward};
-use packets::facts::{Facts, Reading};
+use packets::facts::Facts;
 use records::record::Side;
 
 // The event of a packet from this side, of which this was read.
-pub fn event(settings: &Settings, side: Side, reading: Result<Reading, Refusal>) -> Event
-    ensures { result ≡ accepted (arriving (config settings.now) side) reading }
+pub fn event(settings: &Settings, side: Side, message: Result<Message, Refusal>) -> Event
+    ensures { result ≡ accepted (arriving (config settings.now) side) message }
 {
-    match reading {
-        Ok(reading) => arrival(settings, side, reading),
+    match message {
+        Ok(message) => arrival(settings, side, message),
         Err(cause) => Event::Unreadable(cause),
     }
 }
 
-// The event of a packet that comes in right after it went out, and of which this was read.
-pub fn return_event(settings: &Settings, reading: Result<Reading, Refusal>) -> Event
-    ensures { result ≡ accepted (inward (config settings.now)) reading }
-{
-    match reading {
-        Ok(reading) => coming_in(settings, reading),
-        Err(cause) => Event::Unreadable(cause),
-    }
-}
-
-fn arrival(settings: &Settings, side: Side, reading: Reading) -> Event
-    ensures { result ≡ arriving (config settings.now) side reading }
+fn arrival(settings: &Settings, side: Side, message: Message) -> Event
+    ensures { result ≡ arriving (config settings.now) side message }
 {
     match side {
-        Side::Inside => from_subscriber(settings.subscriber_at(reading.source()), reading),
-        Side::Outside => match reading.admit() {
-            Ok(reading) => coming_in(settings, reading),
+        Side::Inside => from_subscriber(settings.subscriber_at(message.source()), message),
+        Side::Outside => match message.admit() {
+            Ok(message) => coming_in(settings, message),
             Err(cause) => Event::Unreadable(cause),
         },
     }
 }
 
-fn from_subscriber(subscriber: Option<u16>, reading: Reading) -> Event
-    ensures { result ≡ from_subscriber subscriber reading }
+fn from_subscriber(subscriber: Option<u16>, message: Message) -> Event
+    ensures { result ≡ from_subscriber subscriber message }
 {
     let Some(subscriber) = subscriber else {
         return Event::Unreadable(Refusal::NoSubscriber);
     };
-    match reading.admit() {
-        Ok(reading) => going_out(subscriber, reading),
+    match message.admit() {
+        Ok(message) => going_out(subscriber, message),
         Err(cause) => Event::Unreadable(cause),
     }
 }
 
-fn going_out(subscriber: u16, reading: Reading) -> Event
-    ensures { result ≡ outward subscriber reading }
+fn going_out(subscriber: u16, message: Message) -> Event
+    ensures { result ≡ outward subscriber message }
 {
-    match reading {
-        Reading::Packet(facts) => Event::Goes(Outward {
+    match message {
+        Message::Packet(facts) => Event::Goes(Outward {
             subscriber,
             protocol: facts.protocol,
             port: facts.source.port,
             to: facts.destination.address,
         }),
-        Reading::Error(_) => Event::Unreadable(Refusal::UnrelatedError),
+        Message::Error(notice) => error_out(subscriber, notice),
     }
 }
 
-// What comes to our external address, whatever its time to live.
-fn coming_in(settings: &Settings, reading: Reading) -> Event
-    ensures { result ≡ inward (config settings.now) reading }
+// A subscriber's error is about a packet that was sent to it.
+fn error_out(subscriber: u16, notice: Notice) -> Event
+    ensures { result ≡ outward subscriber (the-message.Error notice) }
 {
-    match reading {
-        Reading::Packet(facts) => to_address(settings.external(), facts),
-        Reading::Error(_) => Event::Unreadable(Refusal::UnrelatedError),
+    let quote = notice.quote;
+    if quote.destination.address != notice.heading.source {
+        return Event::Unreadable(Refusal::UnrelatedError);
+    }
+    Event::ErrorGoes(Outward {
+        subscriber,
+        protocol: quote.protocol,
+        port: quote.destination.port,
+        to: quote.source.address,
+    })
+}
+
+// The event of what comes to our external address, whatever its time to live.
+pub fn coming_in(settings: &Settings, message: Message) -> Event
+    ensures { result ≡ inward (config settings.now) message }
+{
+    match message {
+        Message::Packet(facts) => packet_in(settings, facts),
+        Message::Error(notice) => error_in(settings, notice),
     }
 }
 
-fn to_address(external: u32, facts: Facts) -> Event
-    ensures { result ≡ to_address external facts }
+fn packet_in(settings: &Settings, facts: Facts) -> Event
+    ensures { result ≡ inward (config settings.now) (the-message.Packet facts) }
 {
-    if facts.destination.address == external {
-        Event::Comes(Inward {
-            protocol: facts.protocol,
-            port: facts.destination.port,
-            from: facts.source.address,
-        })
-    } else {
-        Event::Unreadable(Refusal::NoMapping)
+    let external = settings.external();
+    if facts.destination.address != external {
+        return Event::Unreadable(Refusal::NoMapping);
     }
+    Event::Comes(Inward {
+        protocol: facts.protocol,
+        port: facts.destination.port,
+        from: facts.source.address,
+    })
+}
+
+// An error that comes to us is about a packet that went out from us.
+fn error_in(settings: &Settings, notice: Notice) -> Event
+    ensures { result ≡ inward (config settings.now) (the-message.Error notice) }
+{
+    let quote = notice.quote;
+    let external = settings.external();
+    if notice.heading.destination != external || quote.source.address != external {
+        return Event::Unreadable(Refusal::UnrelatedError);
+    }
+    Event::ErrorComes(Inward {
+        protocol: quote.protocol,
+        port: quote.source.port,
+        from: quote.destination.address,
+    })
 }

@@ -1,8 +1,7 @@
-// The whole gateway on input records.
+// The gateway on bytes, one event after another.
 #![tactic(auto)]
 
 mod events;
 pub mod gateway;
 pub mod outcome;
-pub mod promise;
 mod rewriting;

@@ -1,38 +1,45 @@
-// From a verdict to what becomes of a packet, and to the bytes that are left of it.
+// From a verdict to what becomes of a message, and to the bytes that are left of it.
 ghost use Rattle.blocks.specs.Settings.{config};
-ghost use Rattle.hairpin.specs.Passages.{home_of, is_to_us, left_by, outcome_of, rewritten};
-ghost use Rattle.packets.specs.Reading.{read_of};
-ghost use Rattle.packets.specs.declared.facts.Reading.TheVariants.{Packet};
-ghost use Rattle.std.specs.Prelude.{◌≡◌, Ok};
+ghost use Rattle.errors.specs.Messages.{message_in};
+ghost use Rattle.hairpin.specs.Passages.{face, home_of, left_by, outcome_of, rewritten, went_to};
+ghost use Rattle.std.specs.Prelude.{◌≡◌, Some, Ok};
 
 use crate::outcome::Outcome;
-use blocks::refusal::Refusal;
 use blocks::settings::Settings;
+use errors::notice::Message;
+use errors::writer::{write_in, write_out};
 use mappings::event::Verdict;
-use packets::facts::{Endpoint, Facts, Reading};
-use packets::writer::{write_in, write_out};
+use packets::facts::{End, Endpoint};
 
-// Whether a packet goes to our own external address.
-pub fn is_to_us(settings: &Settings, read: Result<Reading, Refusal>) -> bool
-    ensures { result ≡ is_to_us (config settings.now) read }
+// A port of our external address.
+fn external(settings: &Settings, port: u16) -> Endpoint
+    ensures { result ≡ face (config settings.now) port }
 {
-    match read {
-        Ok(reading) => reading.destination() == settings.external(),
-        Err(_) => false,
+    Endpoint {
+        address: settings.external(),
+        port,
     }
 }
 
-pub fn outcome(is_ours: bool, verdict: Verdict) -> Outcome
-    ensures { result ≡ outcome_of is_ours verdict }
+// What is sent goes to the world, unless it is to our own external address.
+fn went_to(settings: &Settings, port: u16, read: Option<Message>) -> Outcome
+    ensures { result ≡ went_to (config settings.now) port read }
+{
+    let Some(message) = read else {
+        return Outcome::Out;
+    };
+    if message.destination() == settings.external() {
+        Outcome::Turned(message.relocated(1, End::Source, external(settings, port)))
+    } else {
+        Outcome::Out
+    }
+}
+
+pub fn outcome(settings: &Settings, read: Option<Message>, verdict: Verdict) -> Outcome
+    ensures { result ≡ outcome_of (config settings.now) read verdict }
 {
     match verdict {
-        Verdict::Sent { .. } => {
-            if is_ours {
-                Outcome::Turned
-            } else {
-                Outcome::Out
-            }
-        }
+        Verdict::Sent { port } => went_to(settings, port, read),
         Verdict::Delivered { .. } => Outcome::In,
         Verdict::Refused(cause) => Outcome::Refused(cause),
         Verdict::Ticked => Outcome::Ticked,
@@ -46,42 +53,36 @@ fn home(settings: &Settings, subscriber: u16) -> u32
     settings.address(subscriber).unwrap_or(0)
 }
 
-// Writes the packet as it leaves by this verdict, its time to live less by `hops`.
-fn rewrite(settings: &Settings, bytes: &mut [u8], hops: u8, facts: Facts, verdict: Verdict)
-    requires { read_of bytes.old ≡ Ok (Packet facts) }
-    ensures { bytes.new ≡ rewritten (config settings.now) hops facts verdict bytes.old }
+// Writes the message as it leaves by this verdict, its time to live less by `hops`.
+fn rewrite(settings: &Settings, bytes: &mut [u8], hops: u8, message: Message, verdict: Verdict)
+    requires { message_in bytes.old ≡ Ok message }
+    ensures { bytes.new ≡ rewritten (config settings.now) hops message verdict bytes.old }
 {
     match verdict {
-        Verdict::Sent { port } => {
-            let external = Endpoint {
-                address: settings.external(),
-                port,
-            };
-            write_out(bytes, facts, hops, external);
-        }
+        Verdict::Sent { port } => write_out(bytes, message, hops, external(settings, port)),
         Verdict::Delivered { subscriber, port } => {
             let internal = Endpoint {
                 address: home(settings, subscriber),
                 port,
             };
-            write_in(bytes, facts, hops, internal);
+            write_in(bytes, message, hops, internal);
         }
         Verdict::Refused(_) | Verdict::Ticked => {}
     }
 }
 
-// Leaves of the packet what its verdict wants; `read` is what was read of it.
+// Leaves of the bytes what their verdict wants; `read` is what was read of them.
 pub fn leave(
     settings: &Settings,
     bytes: &mut [u8],
     hops: u8,
-    read: Result<Reading, Refusal>,
+    read: Option<Message>,
     verdict: Verdict,
 )
-    requires { read_of bytes.old ≡ read }
+    requires { (m : Message) → read ≡ Some m → message_in bytes.old ≡ Ok m }
     ensures { bytes.new ≡ left_by (config settings.now) hops read verdict bytes.old }
 {
-    if let Ok(Reading::Packet(facts)) = read {
-        rewrite(settings, bytes, hops, facts, verdict);
+    if let Some(message) = read {
+        rewrite(settings, bytes, hops, message, verdict);
     }
 }

@@ -1,7 +1,7 @@
 -- What is read from a packet's bytes, or why they are refused. The tests come in the order of the refusals' numbers.
 use Rattle.std.specs.Prelude.{ℕ, ◌+◌, ◌*◌, Bool, true, cond, ◌&&◌, ◌||◌, List, length, Ok, Err, Result, ◌==◌, nat_le}
 use Rattle.blocks.specs.declared.refusal.Refusal.{Refusal}
-use Rattle.blocks.specs.declared.refusal.Refusal.TheVariants.{BadHeader, WrongSum, UnknownProtocol, Expired}
+use Rattle.blocks.specs.declared.refusal.Refusal.TheVariants.{BadHeader, WrongSum, UnknownProtocol}
 use Rattle.sums.specs.Words.{word_at, long_at, word_sum}
 use Rattle.sums.specs.Sums.{right}
 use Rattle.packets.specs.declared.facts.Payload.{Payload}
@@ -67,19 +67,3 @@ read_as y h b =
 
 unfoldable pub read_of : List ℕ → Result Reading Refusal
 read_of bs = cond (nat_le 20 (length bs)) (read_as (payload_of (protocol_number (header_of bs))) (header_of bs) (body_of bs)) (Err BadHeader)
-
-abbrev pub source_of : Reading → ℕ
-source_of (Packet f) = f.source.address
-source_of (Error h) = h.source
-
-abbrev pub destination_of : Reading → ℕ
-destination_of (Packet f) = f.destination.address
-destination_of (Error h) = h.destination
-
-abbrev pub ttl_of : Reading → ℕ
-ttl_of (Packet f) = f.ttl
-ttl_of (Error h) = h.ttl
-
--- what was read goes on, unless its time to live is used up
-abbrev pub admitted_of : Reading → Result Reading Refusal
-admitted_of r = cond (nat_le (ttl_of r) 1) (Err Expired) (Ok r)

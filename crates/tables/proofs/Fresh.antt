@@ -8,7 +8,7 @@ use Rattle.blocks.specs.Settings.{config}
 use Rattle.blocks.specs.declared.settings.Settings.{Settings}
 use Rattle.blocks.proofs.Limits.{known}
 use Rattle.mappings.specs.Mappings as mappings
-use Rattle.tables.specs.Given.{bit, is_given}
+use Rattle.places.specs.Given.{bit, is_given}
 use Rattle.tables.specs.Rows.{slot, slots_of}
 
 pub all_same : {A : Type 0} (n i : ℕ) (x : A) → get_or (replicate n x) i x ≡ x

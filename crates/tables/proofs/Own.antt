@@ -15,7 +15,7 @@ use Rattle.mappings.proofs.Firsts.{first_some, has_range}
 use Rattle.mappings.proofs.Options.{none_not_some}
 use Rattle.tables.specs.declared.further.Further.{Further}
 use Rattle.tables.specs.declared.table.Table.{Table}
-use Rattle.tables.specs.Given.{is_given}
+use Rattle.places.specs.Given.{is_given}
 use Rattle.tables.specs.Models.{config_of, model}
 use Rattle.tables.specs.Rows.{blocks_in}
 use Rattle.tables.proofs.Slots.{get_d_through}

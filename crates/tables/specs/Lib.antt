@@ -1,5 +1,4 @@
 pub mod Backs
-pub mod Given
 pub mod Models
 pub mod Ran
 pub mod Rows

@@ -3,8 +3,8 @@ use Rattle.std.specs.Prelude.{ℕ, Bool, not, is_some, Option}
 use Rattle.blocks.specs.Config.{Config}
 use Rattle.mappings.specs.Mappings.{Mapping, is_of}
 use Rattle.mappings.specs.Steps.{live_and}
-use Rattle.tables.specs.declared.searches.Sought.{Sought}
-use Rattle.tables.specs.declared.searches.Sought.TheVariants.{Free, Taken, Face}
+use Rattle.tables.specs.declared.looking.Sought.{Sought}
+use Rattle.tables.specs.declared.looking.Sought.TheVariants.{Free, Taken, Face}
 
 abbrev pub passes : Config → Sought → Option Mapping → Bool
 passes c Free v = not (is_some v)

@@ -2,7 +2,7 @@
 ghost use Rattle.std.specs.Prelude.{◌≡◌, ℕ, ◌<◌, ◌≤◌, [], map, is_some, None, vec_len, vec_capacity, slice_index, slice_index_or};
 ghost use Rattle.blocks.specs.Config.{blocks_of, ports};
 ghost use Rattle.blocks.specs.Settings.{config};
-ghost use Rattle.tables.specs.Given.{is_given};
+ghost use Rattle.places.specs.Given.{is_given};
 ghost use Rattle.tables.specs.Rows.{blocks_in};
 
 use crate::further::Further;

@@ -1,4 +1,1 @@
-pub mod Reading
-pub mod Questions
-pub mod Lines
 pub mod Reports

@@ -3,6 +3,7 @@
 #![tactic(auto)]
 
 use blocks::refusal::Refusal;
+use errors::notice::Message;
 use mappings::event::Protocol;
 use packets::facts::{Endpoint, Facts, Heading, Reading};
 use packets::reader::read;
@@ -11,6 +12,7 @@ use std::alloc::{AllocError, Global};
 use std::io;
 use std::io::{BufRead, BufReader};
 use sums::words::{long_at, word_at};
+use text::report::hex;
 
 fn digit(b: u8) -> Option<u8> {
     match b {
@@ -72,14 +74,6 @@ fn translate_in(packet: &mut [u8], internal: Endpoint) -> bool {
     true
 }
 
-fn hex(heap: Global, bytes: &[u8]) -> Result<String, AllocError> {
-    let mut text = String::new(heap);
-    for b in bytes {
-        text.push_str(format!(in heap; "{b:02x}")?.as_str())?;
-    }
-    Ok(text)
-}
-
 fn dotted(heap: Global, address: u32) -> Result<String, AllocError> {
     let [a, b, c, d] = address.to_be_bytes();
     format!(in heap; "{a}.{b}.{c}.{d}")
@@ -114,10 +108,10 @@ fn heading_text(heap: Global, heading: Heading) -> Result<String, AllocError> {
     format!(in heap; "error {source} > {destination} ttl {ttl}")
 }
 
-fn reading_text(heap: Global, reading: Result<Reading, Refusal>) -> Result<String, AllocError> {
-    match reading {
-        Ok(Reading::Packet(facts)) => facts_text(heap, facts),
-        Ok(Reading::Error(heading)) => heading_text(heap, heading),
+fn message_text(heap: Global, message: Result<Message, Refusal>) -> Result<String, AllocError> {
+    match message {
+        Ok(Message::Packet(facts)) => facts_text(heap, facts),
+        Ok(Message::Error(notice)) => heading_text(heap, notice.heading),
         Err(refusal) => {
             let number = refusal.number();
             format!(in heap; "refused {number}")
@@ -125,8 +119,8 @@ fn reading_text(heap: Global, reading: Result<Reading, Refusal>) -> Result<Strin
     }
 }
 
-fn admitted(packet: &[u8]) -> Result<Reading, Refusal> {
-    read(packet)?.admit()
+fn admitted(packet: &[u8]) -> Result<Message, Refusal> {
+    errors::reader::read(packet)?.admit()
 }
 
 // The lines that are printed for a case.
@@ -135,7 +129,7 @@ fn answer(heap: Global, case: &[u8]) -> Result<String, AllocError> {
         return String::from_str(heap, "too short");
     }
     let packet = &case[12..];
-    let mut text = reading_text(heap, admitted(packet))?;
+    let mut text = message_text(heap, admitted(packet))?;
     let mut out = packet.to_vec(heap)?;
     if translate_out(out.as_mut_slice(), endpoint_at(case, 0)) {
         text.push_str("\nout ")?;

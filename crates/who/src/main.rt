@@ -4,10 +4,10 @@
 use blocks::refusal::Refusal;
 use blocks::settings::Settings;
 use book::book::Book;
+use questions::lines::Lines;
+use questions::question::{Question, When};
 use shell::Trouble;
 use std::process::ExitCode;
-use text::lines::Lines;
-use text::question::{Question, When};
 use text::report::{holder_line, names_line, unknown_line};
 
 fn main(rt: HostRuntime) -> ExitCode {
@@ -22,26 +22,25 @@ fn run(rt: &HostRuntime) -> Result<(), Trouble> {
     let settings = shell::settings(rt, settings.as_str())?;
     let bytes = shell::contents(rt, file.as_str())?;
     let book = Book::read(rt.alloc(), &settings, bytes.as_slice())?;
+    let faulty = tell(rt, file.as_str(), &book)?;
     let text = shell::contents(rt, questions.as_str())?;
     let mut lines = Lines::new(text.as_slice());
-    let malformed = answer_all(rt, &settings, &book, &mut lines)?;
-    let read = match book.fault() {
+    match answer_all(rt, &settings, &book, &mut lines)? {
+        Some(byte) => Err(shell::fault(rt, questions.as_str(), Refusal::Malformed, byte)),
+        None if faulty => Err(Trouble::Said),
         None => Ok(()),
-        Some(fault) => Err(shell::fault(rt, file.as_str(), fault.cause, fault.byte)),
+    }
+}
+
+// Says why the book was not read to its end, if it was not; whether there was anything to say. The questions are answered all the same.
+fn tell(rt: &HostRuntime, file: &str, book: &Book) -> Result<bool, Trouble> {
+    let Some(fault) = book.fault() else {
+        return Ok(false);
     };
-    match malformed {
-        None => read,
-        Some(byte) => match read {
-            Ok(()) => Err(shell::fault(rt, questions.as_str(), Refusal::Malformed, byte)),
-            Err(Trouble::Said) => Err(shell::fault(
-                rt,
-                questions.as_str(),
-                Refusal::Malformed,
-                byte,
-            )),
-            Err(Trouble::Memory) => Err(Trouble::Memory),
-            Err(Trouble::Output(why)) => Err(Trouble::Output(why)),
-        },
+    match shell::fault(rt, file, fault.cause, fault.byte) {
+        Trouble::Said => Ok(true),
+        Trouble::Memory => Err(Trouble::Memory),
+        Trouble::Output(why) => Err(Trouble::Output(why)),
     }
 }
 

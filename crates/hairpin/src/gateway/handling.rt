@@ -1,34 +1,31 @@
 // One event of the gateway at a time: a packet's bytes with its side, a packet that comes in right after it went out, or a tick.
 ghost use Rattle.blocks.specs.Settings.{config};
-ghost use Rattle.hairpin.specs.Events.{event_of, return_of};
-ghost use Rattle.hairpin.specs.Gateways.{Handled, IsFresh, config_in, lines_in, state_in};
-ghost use Rattle.hairpin.specs.Promise.{Main};
-ghost use Rattle.mappings.specs.declared.event.Event.TheVariants as the_event;
-ghost use Rattle.packets.specs.Reading.{read_of};
-ghost use Rattle.std.specs.Prelude.{◌≡◌, [], IfOk};
+ghost use Rattle.errors.specs.Messages.{message_in};
+ghost use Rattle.hairpin.specs.Events.{Enters, Returns};
+ghost use Rattle.hairpin.specs.Gateways.{Handled, IsFresh, ReadAsTurned, config_in, lines_in, state_in};
+ghost use Rattle.hairpin.specs.Passages.{left_by, outcome_of};
+ghost use Rattle.mappings.specs.Steps.{step};
+ghost use Rattle.records.specs.Records as item;
+ghost use Rattle.std.specs.Prelude.{◌≡◌, [], IfOk, Some, Ok};
 
 use super::Gateway;
-use crate::events::{event, return_event};
+use crate::events::{coming_in, event};
 use crate::outcome::Outcome;
-use crate::promise::promise_holds;
-use crate::rewriting::{is_to_us, leave, outcome};
-use blocks::refusal::Refusal;
+use crate::rewriting::{leave, outcome};
 use blocks::settings::Settings;
+use errors::notice::Message;
+use errors::reader::read;
 use mappings::event::Event;
 use mappings::line::Line;
-use packets::facts::Reading;
-use packets::reader::read;
 use records::record::Side;
 use std::alloc::{AllocError, Global};
 use tables::table::Table;
 
 impl Gateway {
-    // A gateway that has seen nothing yet. All its memory is taken here. Of every run from here on all promises over bytes hold.
+    // A gateway that has seen nothing yet. All its memory is taken here.
     pub fn new(heap: Global, settings: Settings) -> Result<Gateway, AllocError>
-        ensures gateway { IfOk result (IsFresh (config settings)) }
-        ensures promise { Main }
+        ensures { IfOk result (IsFresh (config settings)) }
     {
-        promise_holds();
         let table = Table::new(heap, settings)?;
         Ok(Gateway { table })
     }
@@ -36,27 +33,30 @@ impl Gateway {
     // A packet from this side. Its bytes are rewritten as it leaves; those of a refused one stay as they were.
     // A packet that is turned comes in by `turn`, as the next event.
     pub fn packet(&mut self, side: Side, bytes: &mut [u8]) -> Outcome
-        ensures { Handled (config_in self.old) (state_in self.old) 1 (event_of (config_in self.old) side bytes.old) bytes.old self.new result bytes.new }
+        ensures handled { Handled (config_in self.old) (state_in self.old) (Enters (item.Packet side bytes.old)) self.new result bytes.new }
+        ensures turned { ReadAsTurned result bytes.new }
     {
-        let reading = read(bytes);
-        let event = event(&self.table.settings(), side, reading);
-        self.handle(reading, event, 1, bytes)
+        let message = read(bytes);
+        let event = event(&self.table.settings(), side, message);
+        self.handle(message.ok(), event, 1, bytes)
     }
 
-    // The packet that was turned, in the bytes with which it went out, comes in.
-    pub fn turn(&mut self, bytes: &mut [u8]) -> Outcome
-        ensures { Handled (config_in self.old) (state_in self.old) 0 (return_of (config_in self.old) bytes.old) bytes.old self.new result bytes.new }
+    // The packet that was turned comes in: `turned` is what its outcome said, and these are the bytes that were left of it.
+    pub fn turn(&mut self, turned: Message, bytes: &mut [u8]) -> Outcome
+        requires { message_in bytes.old ≡ Ok turned }
+        ensures handled { Handled (config_in self.old) (state_in self.old) (Returns turned bytes.old) self.new result bytes.new }
+        ensures turned { ReadAsTurned result bytes.new }
     {
-        let reading = read(bytes);
-        let event = return_event(&self.table.settings(), reading);
-        self.handle(reading, event, 0, bytes)
+        let event = coming_in(&self.table.settings(), turned);
+        self.handle(Some(turned), event, 0, bytes)
     }
 
     // A tick, which has no bytes.
     pub fn tick(&mut self) -> Outcome
-        ensures { Handled (config_in self.old) (state_in self.old) 0 the_event.Tick [] self.new result [] }
+        ensures { Handled (config_in self.old) (state_in self.old) (Enters item.Tick) self.new result [] }
     {
-        outcome(false, self.table.step(&Event::Tick))
+        let settings = self.table.settings();
+        outcome(&settings, None, self.table.step(&Event::Tick))
     }
 
     // What the last event wrote into the book.
@@ -80,19 +80,17 @@ impl Gateway {
         self.table.tick()
     }
 
-    fn handle(
-        &mut self,
-        reading: Result<Reading, Refusal>,
-        event: Event,
-        hops: u8,
-        bytes: &mut [u8],
-    ) -> Outcome
-        requires { read_of bytes.old ≡ reading }
-        ensures { Handled (config_in self.old) (state_in self.old) hops event bytes.old self.new result bytes.new }
+    fn handle(&mut self, read: Option<Message>, event: Event, hops: u8, bytes: &mut [u8]) -> Outcome
+        requires { (m : Message) → read ≡ Some m → message_in bytes.old ≡ Ok m }
+        ensures settings { config_in self.new ≡ config_in self.old }
+        ensures state { state_in self.new ≡ (step (config_in self.old) event (state_in self.old)).state }
+        ensures lines { lines_in self.new ≡ (step (config_in self.old) event (state_in self.old)).lines }
+        ensures outcome { result ≡ outcome_of (config_in self.old) read (step (config_in self.old) event (state_in self.old)).verdict }
+        ensures left { bytes.new ≡ left_by (config_in self.old) hops read (step (config_in self.old) event (state_in self.old)).verdict bytes.old }
     {
         let settings = self.table.settings();
         let verdict = self.table.step(&event);
-        leave(&settings, bytes, hops, reading, verdict);
-        outcome(is_to_us(&settings, reading), verdict)
+        leave(&settings, bytes, hops, read, verdict);
+        outcome(&settings, read, verdict)
     }
 }

@@ -7,8 +7,8 @@ ghost use Rattle.std.specs.List.{filter};
 ghost use Rattle.tables.specs.Rows.{blocks_in, slots_of};
 
 use super::Further;
+use crate::looking::is_used;
 use crate::mapping::Mapping;
-use crate::searches::is_used;
 use blocks::settings::Settings;
 
 impl Further {

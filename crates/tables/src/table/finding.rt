@@ -7,10 +7,10 @@ ghost use Rattle.tables.specs.Models.{config_of, model};
 ghost use Rattle.tables.specs.Sought.{passes_at};
 
 use super::Table;
-use crate::bits::lowest_out;
-use crate::searches::{Sought, find_port};
+use crate::looking::{Sought, find_port};
 use blocks::refusal::Refusal;
 use mappings::event::{Inward, Outward, Verdict};
+use places::bits::lowest_out;
 
 impl Table {
     // The first port that is as sought, in the subscriber's first block and then in its further ones.

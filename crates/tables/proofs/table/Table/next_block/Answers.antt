@@ -6,7 +6,7 @@ use Rattle.mappings.specs.Searches.{first, range}
 use Rattle.mappings.specs.States.{further_of}
 use Rattle.mappings.specs.Steps.{is_unheld}
 use Rattle.mappings.proofs.Firsts.{first_same}
-use Rattle.tables.specs.Given.{is_out}
+use Rattle.places.specs.Given.{is_out}
 use Rattle.tables.specs.Models.{config_of, model}
 use Rattle.tables.proofs.Own.{row_read, few_blocks}
 use Rattle.tables.proofs.table.Table.next_block.Goals as goal

@@ -1,6 +1,0 @@
--- The theorem stands in a file of its own.
-use Rattle.hairpin.proofs.Turns.{turned_once}
-use Rattle.hairpin.proofs.promise.turned_packets_come_in.Goals as goal
-
-pub returns : goal.returns
-returns c = turned_once

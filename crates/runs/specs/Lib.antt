@@ -1,0 +1,4 @@
+pub mod Courses
+pub mod Standings
+pub mod Nexts
+pub mod Promise
