@@ -1,7 +1,7 @@
 #!/usr/bin/env python3
 """Spells this repository's own definitions and lemmas in snake case.
 
-usage: tools/snake_names.py            at the top of the repository; --check lists what would turn and writes nothing
+usage: tools/snake_names.py            at the top of the repository; --check writes nothing, and --list lists what turns
 
 It goes by spelling, over specs/, proofs/, clauses and must-fail edits. Names of types and modules stay, and so do the functions of src/,
 text in quotes, and the names that the checker makes of a function's goals (those behind a dot in a function's own proof).

@@ -17,7 +17,7 @@ pub struct Notice {
     pub quote: Quote,
 }
 
-// All that goes through the gateway.
+// A packet, or an error about one.
 #[derive(Clone, Copy)]
 pub enum Message {
     Packet(Facts),
