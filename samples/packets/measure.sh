@@ -14,17 +14,21 @@ cat > "$work/crates/measured/src/lib.rt" <<'END'
 // For measuring: a packet read and written outwards.
 #![tactic(auto)]
 
-use packets::facts::Endpoint;
-use packets::facts::Reading;
+use packets::facts::{End, Endpoint, Reading, Relocation};
 use packets::reader::read;
-use packets::writer::write_out;
+use packets::writer::write;
 
 #[unsafe(no_mangle)]
 pub extern "C" fn rattle_translate_out(packet: &mut [u8], address: u32, port: u16) -> u8 {
     let Ok(Reading::Packet(facts)) = read(packet) else {
         return 0;
     };
-    write_out(packet, facts, 1, Endpoint { address, port });
+    let relocation = Relocation {
+        end: End::Source,
+        endpoint: Endpoint { address, port },
+        hops: 1,
+    };
+    write(packet, facts, relocation);
     1
 }
 END

@@ -57,5 +57,5 @@ fn questions(rt: HostRuntime) {
     for (text, expected) in QUESTIONS {
         assert_eq!(rt; Question::read(text).is_some(), expected);
     }
-    assert_eq!(rt; Question::from_line(&[50, 255]).is_some(), false);
+    assert!(rt; Question::from_line(&[50, 255]).is_none());
 }

@@ -1,16 +1,12 @@
 -- Ports and places, addresses and subscribers, first and further blocks.
-use Rattle.std.proofs.Common.{◌≡◌, ℕ, ◌+◌, ◌-◌, ◌*◌, ◌/◌, ◌%◌, ◌<◌, ◌≤◌, Bool, true, false, cond, ◌&&◌, ltb, leb, Some, None, sym, refl, ap, ◌∙◌, inl, inr, ⊎_elim, arith}
+use Rattle.std.proofs.Common.{◌≡◌, ℕ, ◌+◌, ◌-◌, ◌*◌, ◌/◌, ◌%◌, ◌<◌, ◌≤◌, ◌&&◌, ltb, leb, Some, None, sym, refl, ap, ◌∙◌, inl, inr, ⊎_elim, arith}
 use Rattle.std.proofs.lemmas.Nat.{div-add-mod', div_below, div-mul-add, mod_below, mod-mul-add}
 use Rattle.std.proofs.lemmas.Bool.{and_from, and_left, and_parts, and_right, cases_lt, cond-false, cond-true, le-leb, le-ltb, leb-true, lt-leb, lt-ltb, ltb-true}
+use Rattle.std.proofs.lemmas.Option.{cond_some}
 use Rattle.blocks.specs.Config.{Config, lowest_port, blocks_of}
 use Rattle.blocks.specs.Ports.{address_of, block_of, FirstOrFurther, offset_of, OneSubscriber, place_of, port_at, port_of, PortsArePlaces, subscriber_at}
 use Rattle.blocks.specs.declared.place.Place.{Place}
 use Rattle.blocks.proofs.Limits.{Limits, limits, port_small}
-
--- what a test gives where it gives something
-held : {A : Type 0} (b : Bool) {x y : A} → cond b (Some x) None ≡ Some y → (b ≡ true) × (x ≡ y)
-held true h = (refl, cc)
-held false h = let z : ◌≡◌ {A = ℕ} 0 1 = cc in absurd (omega arith)
 
 module _ (c : Config) (l : Limits c) where
   has_place : (p : ℕ) → lowest_port ≤ p → p < 65536 → (q : Place) × (place_of c p ≡ Some q) × (port_at c q ≡ Some p)
@@ -26,7 +22,7 @@ module _ (c : Config) (l : Limits c) where
 
   has_port : (q : Place) (p : ℕ) → port_at c q ≡ Some p → (place_of c p ≡ Some q) × (p < 65536)
   has_port q p h =
-      let got = held _ h in
+      let got = cond_some _ _ _ h in
       let parts = and_parts (ltb q.block (blocks_of c)) (ltb q.offset c.size) got.0 in
       let inside = ltb-true q.offset c.size parts.1 in
       let small = port_small c l _ q.block q.offset refl (ltb-true q.block (blocks_of c) parts.0) inside in
@@ -41,18 +37,18 @@ pub ports_are_places : PortsArePlaces
 ports_are_places c good = (has_place c (limits c good), has_port c (limits c good))
 
 pub one_subscriber : OneSubscriber
-one_subscriber c good = (there, back, λ s b t h k. (held (ltb b c.subscribers) h).1 ∙ sym (held (ltb t c.subscribers) k).1, nobody)
+one_subscriber c good = (there, back, λ s b t h k. (cond_some (ltb b c.subscribers) _ _ h).1 ∙ sym (cond_some (ltb t c.subscribers) _ _ k).1, nobody)
   where
     there : (s a : ℕ) → address_of c s ≡ Some a → subscriber_at c a ≡ Some s
     there s a h =
-        let got = held (ltb s c.subscribers) h in
+        let got = cond_some (ltb s c.subscribers) _ _ h in
         let below = ltb-true s c.subscribers got.0 in
         let same : a - c.internal ≡ s = omega (arith, got.1) in
         cond-true _ _ _ (and_from _ _ (le-leb c.internal a (omega (arith, got.1))) (lt-ltb a (c.internal + c.subscribers) (omega (arith, got.1)))) ∙ ap Some same
 
     back : (s a : ℕ) → subscriber_at c a ≡ Some s → address_of c s ≡ Some a
     back s a h =
-        let got = held (leb c.internal a && ltb a (c.internal + c.subscribers)) h in
+        let got = cond_some (leb c.internal a && ltb a (c.internal + c.subscribers)) _ _ h in
         let parts = and_parts (leb c.internal a) (ltb a (c.internal + c.subscribers)) got.0 in
         let low = leb-true c.internal a parts.0 in
         let high = ltb-true a (c.internal + c.subscribers) parts.1 in

@@ -1,6 +1,8 @@
 // Why an input, the settings or a book is refused: one case for each cause, with its number.
 ghost use Rattle.blocks.specs.Refusals.{number_of};
-ghost use Rattle.std.specs.Prelude.{◌≡◌};
+ghost use Rattle.std.specs.Prelude.{◌≡◌, Some, decimal};
+
+use std::fmt;
 
 #[derive(Clone, Copy, Debug, PartialEq, Eq)]
 pub enum Refusal {
@@ -33,7 +35,7 @@ pub enum Refusal {
 }
 
 impl Refusal {
-    // The number by which programs name this cause.
+    // The number by which programs name this cause; within, a cause is named by its case.
     pub fn number(self) -> u8
         ensures { result ≡ number_of self }
     {
@@ -52,5 +54,14 @@ impl Refusal {
             Refusal::Exhausted => 12,
             Refusal::CannotFollow => 13,
         }
+    }
+}
+
+// A cause is printed as its number.
+impl fmt::Display for Refusal {
+    ghost output = { λ cause. Some (decimal (number_of cause)) };
+
+    fn fmt<W: fmt::Write>(&self, f: &mut fmt::Formatter<W>) -> fmt::Result {
+        fmt::Display::fmt(&self.number(), f)
     }
 }

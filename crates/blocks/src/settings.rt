@@ -6,7 +6,9 @@ mod format;
 mod numbers;
 mod ports;
 
-#[derive(Clone, Copy)]
+// Clauses see settings as the record that `config` gives. A model of this type would give the same record, and want
+// an inverse besides, since settings are copied and compared.
+#[derive(Clone, Copy, Debug, PartialEq, Eq)]
 pub struct Settings {
     // the one address that the world sees
     external: u32,

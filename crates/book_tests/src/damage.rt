@@ -1,7 +1,6 @@
 // One line of a book, cut and bent at each of its bytes.
+use crate::reading::fault_in;
 use blocks::refusal::Refusal;
-use blocks::settings::Settings;
-use book::book::Book;
 use book::line::{front_line, line_bytes};
 use std::alloc::Global;
 use std::test::Fail;
@@ -10,14 +9,7 @@ use std::test::Fail;
 const LINE: [u8; 17] = [16, 0, 0, 0, 0, 0, 0, 0, 16, 0, 0, 0, 0, 0, 8, 0, 2];
 
 fn cause_in(heap: Global, bytes: &[u8]) -> Result<Option<Refusal>, Fail> {
-    let Ok(settings) = Settings::new(0xcb00_7101, 0x0a00_0000, 8, 16, 2, 120, 60) else {
-        return Err(Fail::new("settings"));
-    };
-    let book = Book::read(heap, &settings, bytes)?;
-    match book.fault() {
-        Some(fault) => Ok(Some(fault.cause)),
-        None => Ok(None),
-    }
+    Ok(fault_in(heap, bytes)?.map(|fault| fault.cause))
 }
 
 #[test]

@@ -1,49 +1,38 @@
 // Lines that break one rule each, behind lines that follow one another.
+use crate::reading::fault_in;
 use blocks::refusal::Refusal;
-use blocks::settings::Settings;
-use book::book::Book;
 use book::line::line_bytes;
+use book::reading::Fault;
 use mappings::line::{Change, Line};
 use std::alloc::Global;
 use std::process::Abort;
 use std::test::Fail;
 
-const fn given(moment: u64, tick: u32, block: u16, subscriber: u16) -> Line {
+const fn line(change: Change, moment: u64, tick: u32, block: u16, subscriber: u16) -> Line {
     Line {
-        change: Change::Given,
+        change,
         moment,
         tick,
         block,
         subscriber,
     }
+}
+
+const fn given(moment: u64, tick: u32, block: u16, subscriber: u16) -> Line {
+    line(Change::Given, moment, tick, block, subscriber)
 }
 
 const fn taken(moment: u64, tick: u32, block: u16, subscriber: u16) -> Line {
-    Line {
-        change: Change::TakenBack,
-        moment,
-        tick,
-        block,
-        subscriber,
-    }
+    line(Change::TakenBack, moment, tick, block, subscriber)
 }
 
-// The cause at which the reading of these lines stops, and the byte, for eight subscribers with two further blocks each.
-fn fault_in(heap: Global, lines: &[Line]) -> Result<Option<(Refusal, usize)>, Fail> {
-    let Ok(settings) = Settings::new(0xcb00_7101, 0x0a00_0000, 8, 16, 2, 120, 60) else {
-        return Err(Fail::new("settings"));
-    };
+// The fault at which the reading of these lines stops.
+fn fault_in_lines(heap: Global, lines: &[Line]) -> Result<Option<Fault>, Fail> {
     let mut bytes = Vec::new(heap);
     for line in lines {
-        for byte in line_bytes(line) {
-            bytes.push(byte)?;
-        }
+        bytes.extend_from_slice(&line_bytes(line))?;
     }
-    let book = Book::read(heap, &settings, bytes.as_slice())?;
-    match book.fault() {
-        Some(fault) => Ok(Some((fault.cause, fault.byte))),
-        None => Ok(None),
-    }
+    fault_in(heap, bytes.as_slice())
 }
 
 fn refused(
@@ -53,16 +42,16 @@ fn refused(
     byte: usize,
     rule: &str,
 ) -> Result<(), Fail> {
-    let Some((cause, at)) = fault_in(heap, lines)? else {
-        return Err(Fail::new("read to the end"));
+    let fault = Fault {
+        cause: Refusal::CannotFollow,
+        byte,
     };
-    assert_eq!(rt; cause, Refusal::CannotFollow, "{rule}");
-    assert_eq!(rt; at, byte, "{rule}");
+    assert_eq!(rt; fault_in_lines(heap, lines)?, Some(fault), "{rule}");
     Ok(())
 }
 
 fn accepted(rt: &impl Abort, heap: Global, lines: &[Line]) -> Result<(), Fail> {
-    assert!(rt; fault_in(heap, lines)?.is_none());
+    assert!(rt; fault_in_lines(heap, lines)?.is_none());
     Ok(())
 }
 

@@ -4,7 +4,7 @@
 use book::book::Book;
 use shell::Trouble;
 use std::process::ExitCode;
-use text::report::count_line;
+use text::report::Line;
 
 fn main(rt: HostRuntime) -> ExitCode {
     shell::status(&rt, run(&rt))
@@ -22,6 +22,9 @@ fn run(rt: &HostRuntime) -> Result<(), Trouble> {
         return Err(shell::fault(rt, file.as_str(), fault.cause, fault.byte));
     }
     let peak = book.peak();
-    rt.println(count_line(rt.alloc(), peak.blocks, peak.subscribers)?)?;
+    rt.println(Line::Count {
+        blocks: peak.blocks,
+        subscribers: peak.subscribers,
+    })?;
     Ok(())
 }

@@ -1,6 +1,6 @@
 -- What leaves is read again, with the new facts.
 use Rattle.std.proofs.Common.{◌≡◌, ℕ, ◌≤◌, true, ◌||◌, eqb, List, ◌++◌, length, drop, Ok, sym, refl, ap, ◌∙◌, subst, arith}
-use Rattle.std.proofs.lemmas.List.{length-append, length-drop}
+use Rattle.std.proofs.lemmas.List.{drop_at, length-append, length-drop, take_at}
 use Rattle.std.proofs.lemmas.Bool.{le-leb}
 use Rattle.sums.specs.Words.{byte_at, word_sum}
 use Rattle.sums.specs.Sums.{right}
@@ -9,7 +9,6 @@ use Rattle.packets.specs.declared.facts.End.TheVariants.{Source, Destination}
 use Rattle.packets.specs.declared.facts.Endpoint.{Endpoint}
 use Rattle.packets.specs.declared.facts.Facts.{Facts}
 use Rattle.packets.specs.declared.facts.Heading.{Heading}
-use Rattle.packets.specs.declared.facts.Reading.TheVariants as reading
 use Rattle.packets.specs.Fields.{header_of, body_of, opposite, payload_of, protocol_number}
 use Rattle.packets.specs.Reading.{heading_of, is_error, plain_header, read_of}
 use Rattle.packets.specs.Writing.{sent, sent_header}
@@ -17,11 +16,10 @@ use Rattle.packets.proofs.Readable.{ReadError, is_error_lem, was_error}
 use Rattle.packets.proofs.Accepted.{length_header}
 use Rattle.packets.proofs.Headers.{length_sent_header}
 use Rattle.packets.proofs.SentHeaders.{address_put, address_stays, header_right, header_ttl, low_byte, plain_sent}
-use Rattle.packets.proofs.Halves.{body_out, header_out}
 use Rattle.packets.specs.Laws.{relocated}
 use Rattle.packets.proofs.Again as packets
 use Rattle.errors.specs.declared.notice.Notice.{Notice}
-use Rattle.errors.specs.declared.notice.Message.TheVariants.{Packet, Error}
+use Rattle.packets.specs.declared.facts.Reading.TheVariants.{Packet, Error}
 use Rattle.errors.specs.Quotes.{quote_in, quoted_in}
 use Rattle.errors.specs.Messages.{message_in}
 use Rattle.errors.specs.Requoting.{error_body, left, requoted}
@@ -76,10 +74,10 @@ module _ (bs : List ℕ) (x : Notice) (hops : ℕ) (e : End) (n : Endpoint) wher
     header_long = length_sent_header hops e n.address (header_of bs) ∙ length_header bs own_read.long
 
     pub header_there : header_of (left hops (Error x) e n bs) ≡ header_left
-    header_there = ap header_of left_parts ∙ header_out 20 header_left body_left header_long
+    header_there = ap header_of left_parts ∙ take_at header_left body_left 20 header_long
 
     pub body_there : body_of (left hops (Error x) e n bs) ≡ body_left
-    body_there = ap body_of left_parts ∙ body_out 20 header_left body_left header_long
+    body_there = ap body_of left_parts ∙ drop_at header_left body_left 20 header_long
 
     pub same_length : length body_left ≡ length (body_of bs)
     same_length = length_error_body x.quote.protocol (opposite e) n (body_of bs) body_long
@@ -90,7 +88,7 @@ module _ (bs : List ℕ) (x : Notice) (hops : ℕ) (e : End) (n : Endpoint) wher
         ∙ (ap (λ c. drop 8 c) body_there
         ∙ (quote_there x.quote.protocol (opposite e) n (body_of bs) body_long ∙ ap (λ q. requoted x.quote.protocol (opposite e) n q) (quote_behind bs)))
 
-    error_again : read_of (left hops (Error x) e n bs) ≡ Ok (reading.Error (relocated_heading hops e n.address x.heading))
+    error_again : read_of (left hops (Error x) e n bs) ≡ Ok (Error (relocated_heading hops e n.address x.heading))
     error_again =
         let out : List ℕ = left hops (Error x) e n bs in
         let H : List ℕ = header_left in

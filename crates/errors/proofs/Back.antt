@@ -1,7 +1,8 @@
 -- An error that quotes what had left, written by the same mapping, quotes what had come.
-use Rattle.std.proofs.Common.{◌≡◌, ℕ, ◌+◌, ◌-◌, ◌%◌, ◌<◌, ◌≤◌, Bool, true, false, not, ◌&&◌, ◌||◌, eqb, ltb, leb, ◌≢◌, ◌⊎◌, List, length, take, Ok, sym, refl, ap, ◌∙◌, subst, inl, inr, arith, length-take}
+use Rattle.std.proofs.Common.{◌≡◌, ℕ, ◌+◌, ◌-◌, ◌%◌, ◌<◌, ◌≤◌, true, false, ◌≢◌, ◌⊎◌, List, length, take, Ok, sym, refl, ap, ◌∙◌, subst, inl, inr, arith, length-take}
+use Rattle.std.proofs.lemmas.Bool.Decides.{nat_tests}
 use Rattle.std.proofs.lemmas.List.{ext_get_or, get_or_append_left, get_or-append_right, get_or-drop, get_or-take, length-drop}
-use Rattle.std.proofs.lemmas.Bool.{and_cases, and_from, and_left, and_parts, and_right, cases_Bool, cases_eq, cases_lt, cond_both, cond-false, false≢true, le-leb, le-ltb, leb-true, lt-leb, ltb-true, not_from_false, or_parts}
+use Rattle.std.proofs.lemmas.Bool.{cases_eq, cond_both, cond-false}
 use Rattle.sums.specs.Words.{byte_at, word_at, long_at, put_word, put_long, word_sum}
 use Rattle.sums.specs.Sums.{fresh, moved}
 use Rattle.sums.proofs.Edits.{byte_other, length_put, word_same}
@@ -11,23 +12,21 @@ use Rattle.packets.specs.declared.facts.End.{End}
 use Rattle.packets.specs.declared.facts.End.TheVariants.{Source, Destination}
 use Rattle.packets.specs.declared.facts.Endpoint.{Endpoint}
 use Rattle.packets.specs.declared.facts.Facts.{Facts}
-use Rattle.packets.specs.declared.facts.Reading.TheVariants as reading
-use Rattle.packets.specs.Fields.{header_of, body_of, address_at, opposite, port_at, pseudo_sum, sum_at}
+use Rattle.packets.specs.Fields.{header_of, body_of, address_at, opposite, port_at, pseudo_sum, sum_at, address_sum, halves}
 use Rattle.packets.specs.Reading.{facts_of, read_of}
-use Rattle.packets.specs.Writing.{besides, has_no_sum, is_absent, least_of, sent, sent_header, spelled}
+use Rattle.packets.specs.Writing.{besides, has_no_sum, is_absent, least_of, sent, sent_header, spelled, respelled}
 use Rattle.packets.specs.Laws.{relocated, within}
 use Rattle.packets.proofs.Readable.{Read, was_read}
 use Rattle.packets.proofs.Accepted.{besides_fits, length_header, right_body}
 use Rattle.packets.proofs.Bodies.{Moved, body_moved, settled}
 use Rattle.packets.proofs.SentBodies.{port_put, sum_none}
-use Rattle.packets.proofs.SentHeaders.{header_byte, low_byte}
+use Rattle.packets.proofs.SentHeaders.{header_byte}
 use Rattle.packets.proofs.Untouched as packets
-use Rattle.packets.proofs.Untouched.{outside}
 use Rattle.packets.proofs.Again as sending
 use Rattle.packets.proofs.Again.{body_there, body_sent, header_there, header_sent, least_there}
-use Rattle.errors.specs.declared.notice.Message.TheVariants.{Error}
+use Rattle.packets.specs.declared.facts.Reading.TheVariants.{Packet, Error}
 use Rattle.errors.specs.Quotes.{quote_in}
-use Rattle.errors.specs.Requoting.{address_sum, counted, halves, has_sum, left, requoted, requoted_body, respelled}
+use Rattle.errors.specs.Requoting.{counted, has_sum, left, requoted, requoted_body}
 use Rattle.errors.specs.Relocating.{relocated_heading, relocated_quote}
 use Rattle.errors.specs.Laws.{Bytes, Quotes, QuotesAgain, ThereAndBack, changes_on_the_way, end_at, quote_of_facts}
 use Rattle.errors.proofs.Readings.{Quoted, was_notice, was_quoted}
@@ -58,9 +57,7 @@ same_protocol_lem hops Source n f = refl
 same_protocol_lem hops Destination n f = refl
 
 inside : (i m j : ℕ) → within i m j ≡ true → (i ≤ j) × (j < i + m)
-inside i m j t =
-    let o = and_parts (leb i j) (ltb j (i + m)) t in
-    (leb-true i j o.0, ltb-true j (i + m) o.1)
+inside i m j t = grind (arith, nat_tests)
 
 end_address : (p : Protocol) (e : End) (h b : List ℕ) → (end_at e (facts_of p h b)).address ≡ long_at h (address_at e)
 end_address p Source h b = refl
@@ -74,15 +71,9 @@ behind_sum : (e : End) → (11 < address_at e) × (address_at e + 3 < 20)
 behind_sum Source = (omega arith, omega arith)
 behind_sum Destination = (omega arith, omega arith)
 
--- none of the fields of what left
-untouched : (a b c d x : Bool) → a ≡ false → b ≡ false → c ≡ false → d ≡ false → x ≡ false → (a || b || c || d || x) ≡ false
-untouched a b c d x p q r s t = grind arith
-
 -- a sum that left is never one that is not there
 spelled_present : (p : Protocol) (m t : ℕ) → is_absent p (respelled p m t) ≡ false
-spelled_present Udp m t =
-    cond_both (eqb m 0 && true) 65535 m (λ v. eqb v 0 ≡ false) (λ _. refl)
-    (λ f. elim (and_cases (eqb m 0) true f) [ inl some ↦ some | inr odd ↦ absurd (false≢true (sym odd)) ])
+spelled_present Udp m t = grind (arith, nat_tests)
 spelled_present Tcp m t = refl
 spelled_present Echo m t = refl
 
@@ -102,21 +93,8 @@ back_off w v before after port new old ours same off =
 
 -- what counts besides the body, of the header that had come and of the one that had left
 pseudo_there : (hops : ℕ) (e : End) (a : ℕ) (h : List ℕ) (count : ℕ) → pseudo_sum (sent_header hops e a h) count + address_sum e h ≡ pseudo_sum h count + address_sum e (sent_header hops e a h)
-pseudo_there hops Source a h count =
-    let stays : (j : ℕ) → 15 < j → byte_at (sent_header hops Source a h) j ≡ byte_at h j =
-    λ j far. header_byte hops Source a h j (omega arith) (inr (omega arith)) (inr (omega arith)) in
-    omega (arith, stays 16 (omega arith), stays 17 (omega arith), stays 18 (omega arith), stays 19 (omega arith), low_byte hops Source a h 9 (omega arith) (omega arith))
-pseudo_there hops Destination a h count =
-    let stays : (j : ℕ) → 11 < j → j < 16 → byte_at (sent_header hops Destination a h) j ≡ byte_at h j =
-    λ j far low. header_byte hops Destination a h j (omega arith) (inr far) (inl low) in
-    omega (
-      arith,
-      stays 12 (omega arith) (omega arith),
-      stays 13 (omega arith) (omega arith),
-      stays 14 (omega arith) (omega arith),
-      stays 15 (omega arith) (omega arith),
-      low_byte hops Destination a h 9 (omega arith) (omega arith),
-    )
+pseudo_there hops Source a h count = grind (arith, header_byte hops Source a h)
+pseudo_there hops Destination a h count = grind (arith, header_byte hops Destination a h)
 
 besides_there : (p : Protocol) (hops : ℕ) (e : End) (a : ℕ) (h : List ℕ) (count : ℕ) →
     besides p (sent_header hops e a h) count + counted p (address_sum e h) ≡ besides p h count + counted p (address_sum e (sent_header hops e a h))
@@ -125,13 +103,10 @@ besides_there Tcp hops e a h count = pseudo_there hops e a h count
 besides_there Echo hops e a h count = refl
 
 not_within : (i s : ℕ) → i ≢ s → i ≢ s + 1 → within (20 + s) 2 (20 + i) ≡ false
-not_within i s ne ne' = elim (cases_lt i s) [
-  | inl low ↦ and_left (leb (20 + s) (20 + i)) (ltb (20 + i) (20 + s + 2)) (lt-leb (20 + s) (20 + i) (omega arith))
-  | inr high ↦ and_right (leb (20 + s) (20 + i)) (ltb (20 + i) (20 + s + 2)) (le-ltb (20 + i) (20 + s + 2) (omega arith))
-]
+not_within i s ne ne' = grind (arith, nat_tests)
 
 -- THE BYTES: q quotes what had left, and is written with the end that had come
-module _ (bs : List ℕ) (f : Facts) (hops : ℕ) (e : End) (n : Endpoint) (small : Bytes bs) (read : read_of bs ≡ Ok (reading.Packet f))
+module _ (bs : List ℕ) (f : Facts) (hops : ℕ) (e : End) (n : Endpoint) (small : Bytes bs) (read : read_of bs ≡ Ok (Packet f))
     (q : List ℕ) (s : Quotes q (sent hops f.protocol e n bs)) (long : 28 ≤ length q) where
   r : Read bs f
   r = was_read bs f read
@@ -168,7 +143,7 @@ module _ (bs : List ℕ) (f : Facts) (hops : ℕ) (e : End) (n : Endpoint) (smal
       let i = inside (20 + port_at p e) 2 j t in
       let k : ℕ = j - 20 in
       let j-is : 20 + k ≡ j = omega (arith, i.0) in
-      let apart : (j < 20 + sum_at p) ⊎ (20 + sum_at p + 2 ≤ j) = outside (20 + sum_at p) 2 j out in
+      let apart : (j < 20 + sum_at p) ⊎ (20 + sum_at p + 1 < j) = grind (arith, nat_tests) in
       let c : List ℕ = put_word (body_of q) (port_at p e) (end_at e f).port in
       let sum : ℕ = spelled_sum p e (counted p (address_sum e (header_of q))) (counted p (halves (end_at e f).address)) (end_at e f).port (body_of q) in
       let near : port_at p e + 1 < length (body_of q) = omega (arith, (places p e).port_is, (places p e).near, length-drop 20 q) in
@@ -185,26 +160,14 @@ module _ (bs : List ℕ) (f : Facts) (hops : ℕ) (e : End) (n : Endpoint) (smal
       within (address_at e) 4 j ≡ false → within (20 + port_at f.protocol e) 2 j ≡ false → byte_at (requoted f.protocol e (end_at e f) q) j ≡ byte_at bs j
   elsewhere j low still sum address port =
       let p : Protocol = f.protocol in
-      let o = or_parts (eqb j 8) (within 10 2 j) still in
-      let a : Beside p e (length q) j = record {
-        sum = outside 10 2 j o.1;
-        address = outside (address_at e) 4 j address;
-        port = outside (20 + port_at p e) 2 j port;
-        body = inl (outside (20 + sum_at p) 2 j sum);
-      } in
+      let a : Beside p e (length q) j = grind (arith, nat_tests) in
       quote_byte p e (end_at e f) q long j a
       ∙ (s.bytes j low still
       ∙ (packets.others_stay bs f hops e n read).bytes j
-      (untouched (eqb j 8) (within 10 2 j) (within (address_at e) 4 j) (within (20 + port_at p e) 2 j) (within (20 + sum_at p) 2 j) o.0 o.1 address port sum))
+      (grind (arith, nat_tests)))
 
   byte_back : (j : ℕ) → j < length q → changes_on_the_way j ≡ false → within (20 + sum_at f.protocol) 2 j ≡ false → byte_at (requoted f.protocol e (end_at e f) q) j ≡ byte_at bs j
-  byte_back j low still sum = elim (cases_Bool (within (address_at e) 4 j)) [
-    | inl t ↦ at_address j t
-    | inr address ↦ elim (cases_Bool (within (20 + port_at f.protocol e) 2 j)) [
-      | inl t ↦ at_port j t sum
-      | inr port ↦ elsewhere j low still sum address port
-    ]
-  ]
+  byte_back j low still sum = grind (arith, nat_tests, at_address j, at_port j, elsewhere j low still sum)
 
   -- THE SUM
   cut : length q ≤ length bs
@@ -281,8 +244,7 @@ module _ (bs : List ℕ) (f : Facts) (hops : ℕ) (e : End) (n : Endpoint) (smal
       present : has_sum f.protocol (body_of q) ≡ true
       present =
           let p : Protocol = f.protocol in
-          and_from (leb (sum_at p + 2) (length (body_of q))) (not (has_no_sum p (body_of q))) (le-leb (sum_at p + 2) (length (body_of q)) (omega (arith, length-drop 20 q)))
-          (not_from_false (has_no_sum p (body_of q)) (ap (λ w. is_absent p w) sum_left ∙ spelled_present p sum_moved (word_sum (put_word ported (sum_at p) 0))))
+          grind (arith, nat_tests, sum_left, spelled_present p sum_moved (word_sum (put_word ported (sum_at p) 0)), length-drop 20 q)
 
       moved_back : moved (word_at (body_of q) (sum_at f.protocol)) (gone + word_at (body_of q) (port_at f.protocol e)) (new + (end_at e f).port)
           ≡ word_at (body_of bs) (sum_at f.protocol) % 65535
@@ -290,9 +252,7 @@ module _ (bs : List ℕ) (f : Facts) (hops : ℕ) (e : End) (n : Endpoint) (smal
           let p : Protocol = f.protocol in
           let v : ℕ = word_at (body_of q) (sum_at p) in
           let off : v % 65535 ≡ sum_moved % 65535 = ap (λ w. w % 65535) sum_left ∙ respelled_off p sum_moved (word_sum (put_word ported (sum_at p) 0)) in
-          ap (λ w. moved v (gone + w) (new + (end_at e f).port)) port_left
-          ∙ (ap (λ w. moved v (gone + n.port) (new + w)) port_is
-          ∙ back_off (word_at (body_of bs) (sum_at p)) v before after (word_at (body_of bs) (port_at p e)) n.port new gone addresses off)
+          rw (port_left, port_is) (back_off (word_at (body_of bs) (sum_at p)) v before after (word_at (body_of bs) (port_at p e)) n.port new gone addresses off)
 
       -- the quoted words besides the sum
       abbrev restored : List ℕ
@@ -341,10 +301,8 @@ module _ (bs : List ℕ) (f : Facts) (hops : ℕ) (e : End) (n : Endpoint) (smal
           ≡ respelled f.protocol (word_at (body_of bs) (sum_at f.protocol) % 65535) (word_sum (put_word (body_of (take (length q) bs)) (sum_at f.protocol) 0))
       sum_back =
           let p : Protocol = f.protocol in
-          ap (λ xs. word_at xs (sum_at p)) (quoted_body_there p e (end_at e f) q long ∙ in_place)
-          ∙ (word_same restored (sum_at p) (spelled_sum p e gone new (end_at e f).port (body_of q)) (omega (arith, length_put (body_of q) (port_at p e) (end_at e f).port, length-drop 20 q))
-          ∙ (ap (λ c. respelled p c (word_sum (put_word restored (sum_at p) 0))) moved_back
-          ∙ ap (λ xs. respelled p (word_at (body_of bs) (sum_at p) % 65535) (word_sum xs)) rest_same))
+          let room : sum_at p + 1 < length restored = omega (arith, length_put (body_of q) (port_at p e) (end_at e f).port, length-drop 20 q) in
+          rw (quoted_body_there p e (end_at e f) q long, in_place, word_same restored (sum_at p) (spelled_sum p e gone new (end_at e f).port (body_of q)) room, moved_back, rest_same) refl
 
   -- THE QUOTE
   quotes_again : ((22 + sum_at f.protocol ≤ length q) → has_no_sum f.protocol (body_of q) ≡ true → has_no_sum f.protocol (body_of (requoted f.protocol e (end_at e f) q)) ≡ true) →

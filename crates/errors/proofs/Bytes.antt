@@ -1,11 +1,10 @@
 -- A number put into a list of bytes is, byte by byte, the number that it was read from.
-use Rattle.std.proofs.Common.{◌≡◌, ℕ, ◌+◌, ◌/◌, ◌%◌, ◌<◌, ◌≤◌, List, length, set, sym, ap, ◌∙◌, inl, inr, arith, length-take}
+use Rattle.std.proofs.Common.{◌≡◌, ℕ, ◌+◌, ◌/◌, ◌%◌, ◌<◌, ◌≤◌, List, length, set, ap, ◌∙◌, inl, inr, arith, length-take}
 use Rattle.std.proofs.lemmas.List.{get_or-drop, get_or_past, get_or-set_other, get_or-set_same, get_or-take, length-set}
-use Rattle.std.proofs.lemmas.Bool.{cases_eq, cases_lt}
+use Rattle.std.proofs.lemmas.Bool.{cases_lt}
 use Rattle.sums.specs.Words.{byte_at, word_at, long_at, put_word, put_long}
 use Rattle.sums.proofs.Edits.{byte_other, length_put}
-use Rattle.packets.specs.Fields.{header_of, body_of}
-use Rattle.errors.specs.Requoting.{halves}
+use Rattle.packets.specs.Fields.{header_of, body_of, halves}
 use Rattle.errors.specs.Laws.{Bytes}
 
 pub header_bytes : (bs : List ℕ) → Bytes bs → Bytes (header_of bs)
@@ -26,18 +25,7 @@ low_put bs i w h = get_or-set_same (set bs i (w / 256)) (i + 1) (w % 256) 0 (ome
 
 -- a word of h put into g
 pub word_put : (g h : List ℕ) (i j : ℕ) → Bytes h → i + 1 < length g → i ≤ j → j < i + 2 → byte_at (put_word g i (word_at h i)) j ≡ byte_at h j
-word_put g h i j small within from to = elim (cases_eq j i) [
-  | inl same ↦ ap (λ k. byte_at (put_word g i (word_at h i)) k) same ∙ (high_put g i (word_at h i) within ∙ (high ∙ ap (λ k. byte_at h k) (sym same)))
-  | inr other ↦
-      let next : j ≡ i + 1 = omega arith in
-      ap (λ k. byte_at (put_word g i (word_at h i)) k) next ∙ (low_put g i (word_at h i) within ∙ (low ∙ ap (λ k. byte_at h k) (sym next)))
-]
-  where
-    high : word_at h i / 256 ≡ byte_at h i
-    high = omega (arith, small (i + 1))
-
-    low : word_at h i % 256 ≡ byte_at h (i + 1)
-    low = omega (arith, small (i + 1))
+word_put g h i j small within from to = grind (arith, high_put, low_put, small (i + 1))
 
 -- the two words of a number of 32 bits
 pub long_high : (h : List ℕ) (i : ℕ) → Bytes h → long_at h i / 65536 ≡ word_at h i

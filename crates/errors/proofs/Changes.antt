@@ -10,8 +10,7 @@ use Rattle.mappings.specs.declared.event.Protocol.{Protocol}
 use Rattle.mappings.specs.declared.event.Protocol.TheVariants.{Udp, Tcp, Echo}
 use Rattle.packets.specs.declared.facts.End.{End}
 use Rattle.packets.specs.declared.facts.End.TheVariants.{Source, Destination}
-use Rattle.packets.specs.Fields.{address_at, port_at, sum_at}
-use Rattle.errors.specs.Requoting.{address_sum, halves}
+use Rattle.packets.specs.Fields.{address_at, port_at, sum_at, address_sum, halves}
 
 -- the words of two parts, the first of an even length
 pub sum_append : (k : ℕ) (a b : List ℕ) → length a ≡ 2 * k → word_sum (a ++ b) ≡ word_sum a + word_sum b

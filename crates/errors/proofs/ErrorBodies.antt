@@ -1,6 +1,6 @@
 -- Laws of an error's body as it leaves: its quote, its other bytes, and that its sum is fresh and right.
 use Rattle.std.proofs.Common.{◌≡◌, ℕ, ◌+◌, ◌*◌, ◌/◌, ◌%◌, ◌<◌, ◌≤◌, true, ◌≢◌, List, ◌++◌, length, take, drop, set, sym, refl, ap, ◌∙◌, zero-add, arith}
-use Rattle.std.proofs.lemmas.List.{drop-set-lt, length-append, length-drop}
+use Rattle.std.proofs.lemmas.List.{drop-set-lt, drop_at, length-append, length-drop}
 use Rattle.sums.specs.Words.{byte_at, word_at, put_word, word_sum}
 use Rattle.sums.specs.Sums.{fresh, rest_sum, right}
 use Rattle.sums.proofs.Carries.{fresh_right}
@@ -9,7 +9,6 @@ use Rattle.sums.proofs.Moves.{fresh_there, right_there}
 use Rattle.mappings.specs.declared.event.Protocol.{Protocol}
 use Rattle.packets.specs.declared.facts.End.{End}
 use Rattle.packets.specs.declared.facts.Endpoint.{Endpoint}
-use Rattle.packets.proofs.Halves.{body_out}
 use Rattle.errors.specs.Requoting.{error_body, requoted}
 use Rattle.errors.proofs.Requoted.{length_requoted}
 use Rattle.errors.proofs.Wholes.{front_byte, front_long}
@@ -44,7 +43,7 @@ module _ (p : Protocol) (e : End) (n : Endpoint) (b : List ℕ) where
         ap (λ xs. drop 8 xs) body_is
         ∙ (drop-set-lt 8 (set edited 2 (s / 256)) 3 (s % 256) (omega arith)
         ∙ (drop-set-lt 8 edited 2 (s / 256) (omega arith)
-        ∙ body_out 8 (take 8 b) (requoted p e n (drop 8 b)) (front_long b (requoted p e n (drop 8 b)) (omega arith))))
+        ∙ drop_at (take 8 b) (requoted p e n (drop 8 b)) 8 (front_long b (requoted p e n (drop 8 b)) (omega arith))))
 
     -- of the first 8 only those of the sum change
     pub error_front : (j : ℕ) → j < 8 → j ≢ 2 → j ≢ 3 → byte_at (error_body p e n b) j ≡ byte_at b j

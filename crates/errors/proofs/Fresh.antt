@@ -7,7 +7,7 @@ use Rattle.packets.specs.Laws.{FreshSums}
 use Rattle.packets.proofs.Accepted.{length_header}
 use Rattle.packets.proofs.SentHeaders.{header_fresh}
 use Rattle.packets.proofs.Fresh as packets
-use Rattle.errors.specs.declared.notice.Message.TheVariants.{Packet, Error}
+use Rattle.packets.specs.declared.facts.Reading.TheVariants.{Packet, Error}
 use Rattle.errors.specs.Laws.{OwnSumsAreFresh}
 use Rattle.errors.proofs.Readings.{was_packet}
 use Rattle.errors.proofs.ErrorBodies.{error_fresh}

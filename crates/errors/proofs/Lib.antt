@@ -1,4 +1,5 @@
 pub mod Readings
+pub mod Halves
 pub mod Changes
 pub mod Wholes
 pub mod Requoted

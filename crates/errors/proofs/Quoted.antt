@@ -1,7 +1,7 @@
 -- What an error quotes is read as the packet was, as far as it is quoted.
-use Rattle.std.proofs.Common.{◌≡◌, ℕ, ◌+◌, ◌<◌, ◌≤◌, Bool, true, false, cond, ◌&&◌, ◌||◌, eqb, ltb, leb, List, length, Ok, Result, sym, refl, ap, ◌∙◌, arith}
+use Rattle.std.proofs.Common.{◌≡◌, ℕ, ◌+◌, ◌<◌, ◌≤◌, true, false, List, length, Ok, Result, sym, refl, ap, ◌∙◌, arith}
+use Rattle.std.proofs.lemmas.Bool.Decides.{nat_tests}
 use Rattle.std.proofs.lemmas.List.{get_or-drop, get_or-take}
-use Rattle.std.proofs.lemmas.Bool.{and_from, and_parts, and_right, cond-true, le-ltb, ne_eqb, or_from}
 use Rattle.blocks.specs.declared.refusal.Refusal.{Refusal}
 use Rattle.sums.specs.Words.{byte_at, word_at}
 use Rattle.mappings.specs.declared.event.Protocol.{Protocol}
@@ -9,49 +9,24 @@ use Rattle.mappings.specs.declared.event.Protocol.TheVariants.{Udp, Tcp, Echo}
 use Rattle.packets.specs.declared.facts.End.{End}
 use Rattle.packets.specs.declared.facts.End.TheVariants.{Source, Destination}
 use Rattle.packets.specs.declared.facts.Facts.{Facts}
-use Rattle.packets.specs.declared.facts.Payload.TheVariants.{Datagram, Segment, Message, Other}
 use Rattle.packets.specs.Fields.{header_of, body_of, address_at, icmp_kind, payload_of, port_at, protocol_number}
 use Rattle.packets.specs.Reading.{endpoint_of}
 use Rattle.packets.specs.Laws.{within}
-use Rattle.packets.proofs.Readable.{Read, is_own, never, payload_for}
+use Rattle.packets.proofs.Readable.{Read, is_own, payload_for}
 use Rattle.errors.specs.declared.notice.Quote.{Quote}
-use Rattle.errors.specs.Quotes.{protocol_of, quote_of}
+use Rattle.errors.specs.Quotes.{protocol_of}
 use Rattle.errors.specs.Laws.{Quotes, changes_on_the_way, quote_of_facts}
 use Rattle.errors.proofs.Readings.{Quoted}
 
--- what a payload says of the protocol's number
-datagram : (a b c : Bool) → cond a Datagram (cond b Segment (cond c Message Other)) ≡ Datagram → a ≡ true
-datagram true b c e = refl
-datagram false true c e = never (cc)
-datagram false false true e = never (cc)
-datagram false false false e = never (cc)
-
-segment : (a b c : Bool) → cond a Datagram (cond b Segment (cond c Message Other)) ≡ Segment → (a ≡ false) × (b ≡ true)
-segment true b c e = never (cc)
-segment false true c e = (refl, refl)
-segment false false true e = never (cc)
-segment false false false e = never (cc)
-
-message : (a b c : Bool) → cond a Datagram (cond b Segment (cond c Message Other)) ≡ Message → (a ≡ false) × (b ≡ false) × (c ≡ true)
-message true b c e = never (cc)
-message false true c e = never (cc)
-message false false true e = (refl, refl, refl)
-message false false false e = never (cc)
-
 -- a packet's protocol is the one that its quote has
 own_protocol : (p : Protocol) (h b : List ℕ) → payload_of (protocol_number h) ≡ payload_for p → is_own p b ≡ true → protocol_of (protocol_number h) (icmp_kind b) ≡ Ok p
-own_protocol Udp h b y own = cond-true (eqb (protocol_number h) 17) _ _ (datagram (eqb (protocol_number h) 17) (eqb (protocol_number h) 6) (eqb (protocol_number h) 1) y)
-own_protocol Tcp h b y own =
-    let t = segment (eqb (protocol_number h) 17) (eqb (protocol_number h) 6) (eqb (protocol_number h) 1) y in
-    rw t.0 (rw t.1 refl)
-own_protocol Echo h b y own =
-    let t = message (eqb (protocol_number h) 17) (eqb (protocol_number h) 6) (eqb (protocol_number h) 1) y in
-    let kind : (eqb (icmp_kind b) 8 || eqb (icmp_kind b) 0) ≡ true = (and_parts (eqb (icmp_kind b) 8 || eqb (icmp_kind b) 0) _ own).0 in
-    rw t.0 (rw t.1 (cond-true (eqb (protocol_number h) 1 && (eqb (icmp_kind b) 8 || eqb (icmp_kind b) 0)) _ _ (and_from (eqb (protocol_number h) 1) _ t.2 kind)))
+own_protocol Udp h b y own = grind (arith, nat_tests)
+own_protocol Tcp h b y own = grind (arith, nat_tests)
+own_protocol Echo h b y own = grind (arith, nat_tests)
 
 -- what stands behind the header's sum does not change on the way
 pub settled_behind : (j : ℕ) → 11 < j → changes_on_the_way j ≡ false
-settled_behind j far = or_from (eqb j 8) (within 10 2 j) (ne_eqb j 8 (omega arith)) (and_right (leb 10 j) (ltb j 12) (le-ltb j 12 (omega arith)))
+settled_behind j far = grind (arith, nat_tests)
 
 module _ (q packet : List ℕ) (s : Quotes q packet) (long : 28 ≤ length q) where
   header_quoted_lem : (j : ℕ) → j < 20 → changes_on_the_way j ≡ false → byte_at (header_of q) j ≡ byte_at (header_of packet) j
@@ -96,13 +71,4 @@ module _ (q packet : List ℕ) (s : Quotes q packet) (long : 28 ≤ length q) wh
       ap (λ i. protocol_of i (icmp_kind (body_of q))) number ∙ (ap (λ k. protocol_of (protocol_number (header_of packet)) k) kind ∙ own) in
       let both : ◌≡◌ {A = Result Protocol Refusal} (Ok x.protocol) (Ok p) = sym t.protocol ∙ quoted in
       let same : x.protocol ≡ p = cc in
-      let source = end_quoted p Source in
-      let destination = end_quoted p Destination in
-      t.is ∙ (ap (λ z. quote_of z (header_of q) (body_of q)) same ∙ (parts p source destination ∙ ap quote_of_facts (sym r.facts)))
-    where
-      parts : (p : Protocol) → endpoint_of p Source (header_of q) (body_of q) ≡ endpoint_of p Source (header_of packet) (body_of packet) →
-          endpoint_of p Destination (header_of q) (body_of q) ≡ endpoint_of p Destination (header_of packet) (body_of packet) →
-          quote_of p (header_of q) (body_of q) ≡ quote_of p (header_of packet) (body_of packet)
-      parts p source destination =
-          ap {B = Quote} (λ z. record { protocol = p; source = z; destination = endpoint_of p Destination (header_of q) (body_of q) }) source
-          ∙ ap {B = Quote} (λ z. record { protocol = p; source = endpoint_of p Source (header_of packet) (body_of packet); destination = z }) destination
+      grind (arith, t.is, r.facts, same, end_quoted p Source, end_quoted p Destination)

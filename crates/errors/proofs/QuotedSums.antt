@@ -1,7 +1,8 @@
 -- A quoted sum that was moved is off by as much as it was, and right if it was right.
-use Rattle.std.proofs.Common.{◌≡◌, ℕ, ◌+◌, ◌*◌, ◌/◌, ◌%◌, ◌<◌, ◌≤◌, true, not, ◌&&◌, ◌||◌, eqb, leb, ◌⊎◌, List, length, Ok, sym, refl, ap, ◌∙◌, subst, inl, inr, arith}
+use Rattle.std.proofs.Common.{◌≡◌, ℕ, ◌+◌, ◌*◌, ◌%◌, ◌<◌, ◌≤◌, true, not, eqb, leb, ◌⊎◌, List, length, Ok, sym, refl, ap, ◌∙◌, subst, inl, inr, arith}
+use Rattle.std.proofs.lemmas.Bool.Decides.{nat_tests}
 use Rattle.std.proofs.lemmas.List.{length-drop}
-use Rattle.std.proofs.lemmas.Bool.{and_cases, and_parts, and_right, cond_both, cond-false, cond-true, eq-eqb, eqb-false, eqb-true, leb-true, not_from_true}
+use Rattle.std.proofs.lemmas.Bool.{and_parts, and_right, cond-false, cond-true, eq-eqb, eqb-true, not_from_true}
 use Rattle.sums.specs.Words.{byte_at, word_at, put_word, put_long, word_sum}
 use Rattle.sums.specs.Sums.{moved, ones}
 use Rattle.sums.specs.Laws.{Edit}
@@ -14,17 +15,17 @@ use Rattle.mappings.specs.declared.event.Protocol.TheVariants.{Udp, Tcp, Echo}
 use Rattle.packets.specs.declared.facts.End.{End}
 use Rattle.packets.specs.declared.facts.End.TheVariants.{Source, Destination}
 use Rattle.packets.specs.declared.facts.Endpoint.{Endpoint}
-use Rattle.packets.specs.Fields.{header_of, body_of, address_at, icmp_kind, opposite, port_at, protocol_number, pseudo_sum, sum_at}
-use Rattle.packets.specs.Writing.{besides, has_no_sum, is_absent, is_spelled_out}
+use Rattle.packets.specs.Fields.{header_of, body_of, address_at, icmp_kind, opposite, port_at, protocol_number, pseudo_sum, sum_at, address_sum, halves}
+use Rattle.packets.specs.Writing.{besides, has_no_sum, is_absent, respelled}
 use Rattle.packets.proofs.Accepted.{length_header}
-use Rattle.errors.specs.declared.notice.Message.TheVariants.{Packet, Error}
+use Rattle.packets.specs.declared.facts.Reading.TheVariants.{Packet, Error}
 use Rattle.errors.specs.declared.notice.Quote.{Quote}
-use Rattle.errors.specs.Requoting.{address_sum, counted, halves, has_sum, requoted, requoted_body, requoted_header, respelled}
+use Rattle.errors.specs.Requoting.{counted, has_sum, requoted, requoted_body, requoted_header}
 use Rattle.errors.specs.Quotes.{protocol_of, quote_in}
 use Rattle.errors.specs.Laws.{AsRight, QuotedSums, QuotedSumsStayRight}
 use Rattle.errors.proofs.Readings.{Quoted}
 use Rattle.errors.proofs.Changes.{body_edit, header_edit, sum_apart}
-use Rattle.errors.proofs.Requoted.{body_quoted, header_quoted, quoted_body_there, quoted_header_byte, quoted_header_there, quoted_low_byte, spelled_sum, tcp_number, udp_number}
+use Rattle.errors.proofs.Requoted.{body_quoted, header_quoted, quoted_body_there, quoted_header_byte, quoted_header_there, quoted_low_byte, spelled_sum}
 use Rattle.errors.proofs.Again.{quote_left, quote_read}
 
 as_right : (before after : ℕ) → after % 65535 ≡ before % 65535 → 0 < after → AsRight before after
@@ -45,27 +46,11 @@ header_off e a h l =
 -- WHAT COUNTS BESIDES THE BODY
 words_put : (a s at : ℕ) (h : List ℕ) → 11 < at → at + 3 < length h →
     word_at (put_word (put_long h at a) 10 s) at + word_at (put_word (put_long h at a) 10 s) (at + 2) ≡ halves a
-words_put a s at h behind within =
-    let f : List ℕ = put_word h at (a / 65536) in
-    let g : List ℕ = put_long h at a in
-    let high : word_at (put_word g 10 s) at ≡ a / 65536 =
-    word_above g 10 s at (omega arith) ∙ (word_below f (at + 2) (a % 65536) at (omega arith) ∙ word_same h at (a / 65536) (omega arith)) in
-    let low : word_at (put_word g 10 s) (at + 2) ≡ a % 65536 =
-    word_above g 10 s (at + 2) (omega arith) ∙ word_same f (at + 2) (a % 65536) (omega (arith, length_put h at (a / 65536))) in
-    omega arith
+words_put a s at h behind within = grind (arith, word_above, word_below, word_same, length_put)
 
 words_stay : (e : End) (a : ℕ) (h : List ℕ) (at : ℕ) → 11 < at → (at + 3 < address_at e) ⊎ (address_at e + 3 < at) →
     word_at (requoted_header e a h) at + word_at (requoted_header e a h) (at + 2) ≡ word_at h at + word_at h (at + 2)
-words_stay e a h at behind apart =
-    let stays : (j : ℕ) → at ≤ j → j < at + 4 → byte_at (requoted_header e a h) j ≡ byte_at h j =
-    λ j low high. quoted_header_byte e a h j (inr (omega arith)) (elim apart [ inl below ↦ inl (omega arith) | inr above ↦ inr (omega arith) ]) in
-    omega (
-      arith,
-      stays at (omega arith) (omega arith),
-      stays (at + 1) (omega arith) (omega arith),
-      stays (at + 2) (omega arith) (omega arith),
-      stays (at + 2 + 1) (omega arith) (omega arith),
-    )
+words_stay e a h at behind apart = grind (arith, quoted_header_byte e a h)
 
 pseudo_moved : (e : End) (a : ℕ) (h : List ℕ) (count : ℕ) → length h ≡ 20 → pseudo_sum (requoted_header e a h) count + address_sum e h ≡ pseudo_sum h count + halves a
 pseudo_moved Source a h count l =
@@ -91,10 +76,7 @@ besides_moved Echo e a h count l = refl
 
 -- THE BODY: P and p are what counts besides it, after and before
 pub respelled_off : (p : Protocol) (c s : ℕ) → respelled p c s % 65535 ≡ c % 65535
-respelled_off p c s =
-    cond_both (eqb c 0 && is_spelled_out p s) 65535 c (λ v. v % 65535 ≡ c % 65535)
-    (λ t. omega (arith, eqb-true c 0 (and_parts (eqb c 0) (is_spelled_out p s) t).0))
-    (λ _. refl)
+respelled_off p c s = grind (arith, nat_tests)
 
 pub sum_settled : (s w g n : ℕ) → s % 65535 ≡ moved w g n % 65535 → (s + n) % 65535 ≡ (w + g) % 65535
 sum_settled s w g n e = omega arith
@@ -111,7 +93,7 @@ body_settled P p X x g n port new w s rest beside edit sum =
 
 module _ (p : Protocol) (e : End) (gone new port : ℕ) (b : List ℕ) (long : 8 ≤ length b) (has : has_sum p b ≡ true) where
   pub sum_within : sum_at p + 1 < length b
-  sum_within = omega (arith, leb-true (sum_at p + 2) (length b) (and_parts (leb (sum_at p + 2) (length b)) (not (has_no_sum p b)) has).0)
+  sum_within = grind (arith, nat_tests)
 
   -- the body with its new sum in place
   pub body_put : requoted_body p e gone new port b ≡ put_word (put_word b (port_at p e) port) (sum_at p) (spelled_sum p e gone new port b)
@@ -130,10 +112,7 @@ module _ (p : Protocol) (e : End) (gone new port : ℕ) (b : List ℕ) (long : 8
 
 -- the words of an echo are never all 0, once its sum is spelled
 echo_spelled : (m t : ℕ) → 0 < t + respelled Echo m t
-echo_spelled m t =
-    cond_both (eqb m 0 && eqb t 0) 65535 m (λ v. 0 < t + v)
-    (λ _. omega arith)
-    (λ f. elim (and_cases (eqb m 0) (eqb t 0) f) [ inl some ↦ omega (arith, eqb-false m 0 some) | inr some ↦ omega (arith, eqb-false t 0 some) ])
+echo_spelled m t = grind (arith, nat_tests)
 
 echo_some : (e : End) (gone new port : ℕ) (b : List ℕ) (long : 8 ≤ length b) → has_sum Echo b ≡ true → 0 < word_sum (requoted_body Echo e gone new port b)
 echo_some e gone new port b long has =
@@ -151,18 +130,8 @@ echo_some e gone new port b long has =
 -- all that counts is more than nothing
 counts : (p : Protocol) (e : End) (gone new port a : ℕ) (h b : List ℕ) (count rest : ℕ) → 8 ≤ length b → has_sum p b ≡ true →
     protocol_of (protocol_number h) (icmp_kind b) ≡ Ok p → 0 < besides p (requoted_header e a h) count + word_sum (requoted_body p e gone new port b) + rest
-counts Udp e gone new port a h b count rest long has is =
-    omega (
-      arith,
-      quoted_low_byte e a h 9 (omega arith),
-      eqb-true (protocol_number h) 17 (udp_number (eqb (protocol_number h) 17) (eqb (protocol_number h) 6) (eqb (protocol_number h) 1 && (eqb (icmp_kind b) 8 || eqb (icmp_kind b) 0)) is),
-    )
-counts Tcp e gone new port a h b count rest long has is =
-    omega (
-      arith,
-      quoted_low_byte e a h 9 (omega arith),
-      eqb-true (protocol_number h) 6 (tcp_number (eqb (protocol_number h) 17) (eqb (protocol_number h) 6) (eqb (protocol_number h) 1 && (eqb (icmp_kind b) 8 || eqb (icmp_kind b) 0)) is).1,
-    )
+counts Udp e gone new port a h b count rest long has is = grind (arith, nat_tests, quoted_low_byte e a h 9)
+counts Tcp e gone new port a h b count rest long has is = grind (arith, nat_tests, quoted_low_byte e a h 9)
 counts Echo e gone new port a h b count rest long has is = omega (arith, echo_some e gone new port b long has)
 
 -- THE QUOTE

@@ -1,22 +1,21 @@
 -- What leaves differs from what came in no byte besides those named, and in no length.
-use Rattle.std.proofs.Common.{◌≡◌, ℕ, ◌+◌, ◌-◌, ◌<◌, ◌≤◌, Bool, false, ◌&&◌, ◌||◌, eqb, leb, ◌⊎◌, List, ◌++◌, length, Ok, sym, ap, ◌∙◌, inl, inr, arith}
+use Rattle.std.proofs.Common.{◌≡◌, ℕ, ◌+◌, ◌-◌, ◌<◌, ◌≤◌, false, ◌⊎◌, List, ◌++◌, length, Ok, sym, ap, ◌∙◌, inl, inr, arith}
+use Rattle.std.proofs.lemmas.Bool.Decides.{nat_tests}
 use Rattle.std.proofs.lemmas.List.{get_or_append_left, get_or-append_right, get_or-drop, get_or-take, length-append, length-drop}
-use Rattle.std.proofs.lemmas.Bool.{and_cases, and_left, cases_lt, cond-false, eqb-false, leb-false, lt-leb}
-use Rattle.sums.specs.Words.{byte_at, put_word}
+use Rattle.std.proofs.lemmas.Bool.{cases_lt}
+use Rattle.sums.specs.Words.{byte_at}
 use Rattle.sums.proofs.Edits.{byte_other}
 use Rattle.mappings.specs.declared.event.Protocol.{Protocol}
 use Rattle.packets.specs.declared.facts.End.{End}
 use Rattle.packets.specs.declared.facts.Endpoint.{Endpoint}
-use Rattle.packets.specs.Fields.{header_of, body_of, address_at, opposite, port_at, sum_at}
-use Rattle.packets.specs.Laws.{within}
+use Rattle.packets.specs.Fields.{header_of, body_of, address_at, opposite, port_at, sum_at, address_sum, halves}
 use Rattle.packets.proofs.Untouched as packets
-use Rattle.packets.proofs.Untouched.{above, outside, shifted}
 use Rattle.packets.proofs.SentHeaders.{header_byte}
 use Rattle.errors.specs.declared.notice.Notice.{Notice}
-use Rattle.errors.specs.declared.notice.Message.TheVariants.{Packet, Error}
+use Rattle.packets.specs.declared.facts.Reading.TheVariants.{Packet, Error}
 use Rattle.errors.specs.Quotes.{quote_in}
 use Rattle.errors.specs.Messages.{message_in}
-use Rattle.errors.specs.Requoting.{address_sum, counted, halves, has_sum, left, requoted, requoted_body}
+use Rattle.errors.specs.Requoting.{counted, left, requoted, requoted_body}
 use Rattle.errors.specs.Laws.{OthersStay, is_quote_touched, is_touched_in}
 use Rattle.errors.proofs.Readings.{was_packet}
 use Rattle.errors.proofs.Requoted.{body_quoted, header_quoted, quote_parts, quoted_body_byte, quoted_header_byte, quoted_header_long}
@@ -26,23 +25,21 @@ use Rattle.errors.proofs.Again.{body_left, body_long, header_left, header_long, 
 -- a sum of which not the whole is quoted stays
 pub short_body_byte : (p : Protocol) (e : End) (gone new port : ℕ) (b : List ℕ) (j : ℕ) → length b < sum_at p + 2 → (j < port_at p e) ⊎ (port_at p e + 1 < j) →
     byte_at (requoted_body p e gone new port b) j ≡ byte_at b j
-short_body_byte p e gone new port b j short out-port =
-    ap (λ xs. byte_at xs j) (cond-false (has_sum p b) _ (put_word b (port_at p e) port) (and_left (leb (sum_at p + 2) (length b)) _ (lt-leb (sum_at p + 2) (length b) short)))
-    ∙ byte_other b (port_at p e) port j (omega arith) (omega arith)
+short_body_byte p e gone new port b j short out-port = grind (arith, nat_tests, byte_other)
 
 -- a byte of the quote that lies outside each of the fields
 pub record Beside (p : Protocol) (e : End) (n k : ℕ) : Type 0 where
-  pub sum : (k < 10) ⊎ (10 + 2 ≤ k)
-  pub address : (k < address_at e) ⊎ (address_at e + 4 ≤ k)
-  pub port : (k < 20 + port_at p e) ⊎ (20 + port_at p e + 2 ≤ k)
-  pub body : ((k < 20 + sum_at p) ⊎ (20 + sum_at p + 2 ≤ k)) ⊎ (n < 22 + sum_at p)
+  pub sum : (k < 10) ⊎ (11 < k)
+  pub address : (k < address_at e) ⊎ (address_at e + 3 < k)
+  pub port : (k < 20 + port_at p e) ⊎ (20 + port_at p e + 1 < k)
+  pub body : ((k < 20 + sum_at p) ⊎ (20 + sum_at p + 1 < k)) ⊎ (n < 22 + sum_at p)
 
 module _ (p : Protocol) (e : End) (n : Endpoint) (q : List ℕ) (long : 28 ≤ length q) where
   parts_byte : (k : ℕ) → Beside p e (length q) k → byte_at (header_quoted p e n q ++ body_quoted p e n q) k ≡ byte_at q k
   parts_byte k a = elim (cases_lt k 20) [
     | inl low ↦
         get_or_append_left (header_quoted p e n q) (body_quoted p e n q) 0 k (omega (arith, quoted_header_long p e n q long))
-        ∙ (quoted_header_byte e n.address (header_of q) k (above 10 1 k a.sum) (above (address_at e) 3 k a.address) ∙ get_or-take 20 q k 0 low)
+        ∙ (quoted_header_byte e n.address (header_of q) k a.sum a.address ∙ get_or-take 20 q k 0 low)
     | inr high ↦
         let i : ℕ = k - 20 in
         let k-is : 20 + i ≡ k = omega arith in
@@ -50,43 +47,19 @@ module _ (p : Protocol) (e : End) (n : Endpoint) (q : List ℕ) (long : 28 ≤ l
         ∙ (in_body i k-is a.body ∙ (get_or-drop 20 q i 0 ∙ ap (λ z. byte_at q z) k-is))
   ]
     where
-      in_body : (i : ℕ) → 20 + i ≡ k → ((k < 20 + sum_at p) ⊎ (20 + sum_at p + 2 ≤ k)) ⊎ (length q < 22 + sum_at p) → byte_at (body_quoted p e n q) i ≡ byte_at (body_of q) i
+      in_body : (i : ℕ) → 20 + i ≡ k → ((k < 20 + sum_at p) ⊎ (20 + sum_at p + 1 < k)) ⊎ (length q < 22 + sum_at p) → byte_at (body_quoted p e n q) i ≡ byte_at (body_of q) i
       in_body i k-is (inl apart) =
           quoted_body_byte p e (counted p (address_sum e (header_of q))) (counted p (halves n.address)) n.port (body_of q) i
-          (shifted (port_at p e) 1 20 i k k-is a.port) (shifted (sum_at p) 1 20 i k k-is apart)
+          (grind (arith, a.port)) (grind arith)
       in_body i k-is (inr short) =
           short_body_byte p e (counted p (address_sum e (header_of q))) (counted p (halves n.address)) n.port (body_of q) i
-          (omega (arith, length-drop 20 q)) (shifted (port_at p e) 1 20 i k k-is a.port)
+          (omega (arith, length-drop 20 q)) (grind (arith, a.port))
 
   pub quote_byte : (k : ℕ) → Beside p e (length q) k → byte_at (requoted p e n q) k ≡ byte_at q k
   quote_byte k a = ap (λ xs. byte_at xs k) (quote_parts p e n q) ∙ parts_byte k a
 
--- none of several tests holds
-five : (a b c d x : Bool) → (a || b || c || d || x) ≡ false → (a ≡ false) × (b ≡ false) × (c ≡ false) × (d ≡ false) × (x ≡ false)
-five a b c d x t = grind arith
-
-four : (a b c d : Bool) → (a || b || c || d) ≡ false → (a ≡ false) × (b ≡ false) × (c ≡ false) × (d ≡ false)
-four a b c d t = grind arith
-
--- counted from where the quote begins
-behind : (i m k j : ℕ) → 28 + k ≡ j → (j < 28 + i) ⊎ (28 + i + m ≤ j) → (k < i) ⊎ (i + m ≤ k)
-behind i m k j e h = elim h [ inl low ↦ inl (omega arith) | inr high ↦ inr (omega arith) ]
-
-behind_header : (i m k j : ℕ) → 28 + k ≡ j → (j < 48 + i) ⊎ (48 + i + m ≤ j) → (k < 20 + i) ⊎ (20 + i + m ≤ k)
-behind_header i m k j e h = elim h [ inl low ↦ inl (omega arith) | inr high ↦ inr (omega arith) ]
-
 beside : (p : Protocol) (e : End) (n k j : ℕ) → 28 + k ≡ j → is_quote_touched p e (28 + n) j ≡ false → Beside p e n k
-beside p e n k j j-is t =
-    let o = four (within 38 2 j) (within (28 + address_at e) 4 j) (within (48 + port_at p e) 2 j) (leb (50 + sum_at p) (28 + n) && within (48 + sum_at p) 2 j) t in
-    record {
-      sum = behind 10 2 k j j-is (outside 38 2 j o.0);
-      address = behind (address_at e) 4 k j j-is (outside (28 + address_at e) 4 j o.1);
-      port = behind_header (port_at p e) 2 k j j-is (outside (48 + port_at p e) 2 j o.2);
-      body = elim (and_cases (leb (50 + sum_at p) (28 + n)) (within (48 + sum_at p) 2 j) o.3) [
-        | inl short ↦ inr (omega (arith, leb-false (50 + sum_at p) (28 + n) short))
-        | inr apart ↦ inl (behind_header (sum_at p) 2 k j j-is (outside (48 + sum_at p) 2 j apart))
-      ];
-    }
+beside p e n k j j-is t = grind (arith, nat_tests)
 
 module _ (bs : List ℕ) (x : Notice) (hops : ℕ) (e : End) (n : Endpoint) (m : message_in bs ≡ Ok (Error x)) where
   error_length : length (left hops (Error x) e n bs) ≡ length bs
@@ -107,28 +80,26 @@ module _ (bs : List ℕ) (x : Notice) (hops : ℕ) (e : End) (n : Endpoint) (m :
       let out : List ℕ = left hops (Error x) e n bs in
       let H : List ℕ = header_left bs x hops e n in
       let B : List ℕ = body_left bs x hops e n in
-      let o = five (eqb j 8) (within 10 2 j) (within (address_at e) 4 j) (within 22 2 j) (is_quote_touched p (opposite e) (length bs) j) t in
       elim (cases_lt j 20) [
         | inl low ↦
             ap (λ xs. byte_at xs j) (left_parts bs x hops e n)
             ∙ (get_or_append_left H B 0 j (omega (arith, header_long bs x hops e n m))
-            ∙ (header_byte hops e n.address (header_of bs) j (eqb-false j 8 o.0) (above 10 1 j (outside 10 2 j o.1)) (above (address_at e) 3 j (outside (address_at e) 4 j o.2))
+            ∙ (header_byte hops e n.address (header_of bs) j (grind (arith, nat_tests)) (grind (arith, nat_tests)) (grind (arith, nat_tests))
             ∙ get_or-take 20 bs j 0 low))
         | inr high ↦ elim (cases_lt j 28) [
           | inl low ↦
               let i : ℕ = j - 20 in
               let j-is : 20 + i ≡ j = omega arith in
-              let apart : (j < 22) ⊎ (22 + 2 ≤ j) = outside 22 2 j o.3 in
               ap (λ xs. byte_at xs j) (left_parts bs x hops e n)
               ∙ (get_or-append_right H B 20 j 0 (header_long bs x hops e n m) high
-              ∙ (error_front p (opposite e) n (body_of bs) (body_long bs x hops e n m) i (omega arith) (omega arith) (omega arith)
+              ∙ (error_front p (opposite e) n (body_of bs) (body_long bs x hops e n m) i (omega arith) (grind (arith, nat_tests)) (grind (arith, nat_tests))
               ∙ (get_or-drop 20 bs i 0 ∙ ap (λ z. byte_at bs z) j-is)))
           | inr far ↦
               let k : ℕ = j - 28 in
               let j-is : 28 + k ≡ j = omega arith in
               let whole : 28 + length (quote_in bs) ≡ length bs = omega (arith, length-drop 28 bs, (quote_read bs x hops e n m).long) in
               let a : Beside p (opposite e) (length (quote_in bs)) k =
-              beside p (opposite e) (length (quote_in bs)) k j j-is (ap (λ z. is_quote_touched p (opposite e) z j) whole ∙ o.4) in
+              beside p (opposite e) (length (quote_in bs)) k j j-is (grind (arith, nat_tests)) in
               sym (get_or-drop 28 out k 0 ∙ ap (λ z. byte_at out z) j-is)
               ∙ (ap (λ xs. byte_at xs k) (quote_left bs x hops e n m)
               ∙ (quote_byte p (opposite e) n (quote_in bs) (quote_read bs x hops e n m).long k a

@@ -7,18 +7,17 @@ use Rattle.packets.specs.declared.facts.End.{End}
 use Rattle.packets.specs.declared.facts.End.TheVariants.{Source, Destination}
 use Rattle.packets.specs.declared.facts.Endpoint.{Endpoint}
 use Rattle.packets.specs.declared.facts.Facts.{Facts}
-use Rattle.packets.specs.declared.facts.Reading.TheVariants as reading
 use Rattle.packets.specs.Fields.{header_of, body_of, header_sum_at, ttl_at, address_at, opposite, port_at, sum_at}
 use Rattle.packets.specs.Reading.{read_of}
-use Rattle.packets.specs.Writing.{besides, has_no_sum, sent}
+use Rattle.packets.specs.Writing.{besides, has_no_sum, sent, respelled}
 use Rattle.packets.specs.Laws.{FreshSums, is_touched, within}
 use Rattle.errors.specs.declared.notice.Quote.{Quote}
 use Rattle.errors.specs.declared.notice.Notice.{Notice}
-use Rattle.errors.specs.declared.notice.Message.{Message}
-use Rattle.errors.specs.declared.notice.Message.TheVariants.{Packet, Error}
+use Rattle.errors.specs.Messages.{Message}
+use Rattle.packets.specs.declared.facts.Reading.TheVariants.{Packet, Error}
 use Rattle.errors.specs.Quotes.{quote_in}
 use Rattle.errors.specs.Messages.{message_in}
-use Rattle.errors.specs.Requoting.{has_sum, left, message_sum_at, respelled}
+use Rattle.errors.specs.Requoting.{has_sum, left, message_sum_at}
 use Rattle.errors.specs.Relocating.{relocated_heading, relocated_message}
 
 -- 1. What leaves can be read again, with the new facts.
@@ -111,5 +110,5 @@ pub record Returned (f : Facts) (x : Notice) (hops : ℕ) (e : End) (packet erro
 abbrev pub ThereAndBack : Type 0
 ThereAndBack =
     (bs error : List ℕ) (f : Facts) (x : Notice) (hops hops_back : ℕ) (e : End) (n : Endpoint) → Bytes bs →
-    read_of bs ≡ Ok (reading.Packet f) → message_in error ≡ Ok (Error x) → Quotes (quote_in error) (sent hops f.protocol e n bs) →
+    read_of bs ≡ Ok (Packet f) → message_in error ≡ Ok (Error x) → Quotes (quote_in error) (sent hops f.protocol e n bs) →
     Returned f x hops_back e bs error (left hops_back (Error x) (opposite e) (end_at e f) error)

@@ -7,8 +7,8 @@ use Rattle.packets.specs.declared.facts.Heading.{Heading}
 use Rattle.packets.specs.Fields.{opposite}
 use Rattle.packets.specs.Laws.{other_end, relocated}
 use Rattle.errors.specs.declared.notice.Quote.{Quote}
-use Rattle.errors.specs.declared.notice.Message.{Message}
-use Rattle.errors.specs.declared.notice.Message.TheVariants.{Packet, Error}
+use Rattle.errors.specs.Messages.{Message}
+use Rattle.packets.specs.declared.facts.Reading.TheVariants.{Packet, Error}
 
 abbrev pub relocated_heading : ℕ → End → ℕ → Heading → Heading
 relocated_heading hops Source address h = record { source = address; destination = h.destination; ttl = h.ttl - hops }

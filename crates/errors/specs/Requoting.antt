@@ -1,23 +1,16 @@
 -- The error that leaves: its own address and the quoted end replaced. A quoted sum may be wrong, so it is moved by what changed;
 -- the error's own sums are worked out afresh.
-use Rattle.std.specs.Prelude.{ℕ, ◌+◌, ◌/◌, ◌%◌, Bool, cond, not, ◌&&◌, List, ◌++◌, length, take, drop, ◌==◌, nat_le}
+use Rattle.std.specs.Prelude.{ℕ, ◌+◌, Bool, cond, not, ◌&&◌, List, ◌++◌, length, take, drop, nat_le}
 use Rattle.sums.specs.Words.{word_at, put_word, put_long, word_sum}
 use Rattle.sums.specs.Sums.{fresh, moved, rest_sum}
 use Rattle.mappings.specs.declared.event.Protocol.{Protocol}
 use Rattle.mappings.specs.declared.event.Protocol.TheVariants.{Udp, Tcp, Echo}
 use Rattle.packets.specs.declared.facts.End.{End}
 use Rattle.packets.specs.declared.facts.Endpoint.{Endpoint}
-use Rattle.packets.specs.Fields.{header_of, body_of, header_sum_at, address_at, opposite, port_at, sum_at}
-use Rattle.packets.specs.Writing.{has_no_sum, is_spelled_out, sent, sent_header}
-use Rattle.errors.specs.declared.notice.Message.{Message}
-use Rattle.errors.specs.declared.notice.Message.TheVariants.{Packet, Error}
-
--- the two words of an address, added: of one in a header, and of a new one
-abbrev pub address_sum : End → List ℕ → ℕ
-address_sum e h = word_at h (address_at e) + word_at h (address_at e + 2)
-
-abbrev pub halves : ℕ → ℕ
-halves address = address / 65536 + address % 65536
+use Rattle.packets.specs.Fields.{header_of, body_of, header_sum_at, address_at, address_sum, halves, opposite, port_at, sum_at}
+use Rattle.packets.specs.Writing.{has_no_sum, respelled, sent, sent_header}
+use Rattle.errors.specs.Messages.{Message}
+use Rattle.packets.specs.declared.facts.Reading.TheVariants.{Packet, Error}
 
 -- a quoted header
 abbrev pub requoted_header : End → ℕ → List ℕ → List ℕ
@@ -33,10 +26,6 @@ counted Echo n = 0
 -- whether a quoted body has a sum, and the whole of it is quoted
 abbrev pub has_sum : Protocol → List ℕ → Bool
 has_sum p b = nat_le (sum_at p + 2) (length b) && not (has_no_sum p b)
-
--- a moved sum c in the spelling in which it is sent, where the other words that are quoted add up to s
-abbrev pub respelled : Protocol → ℕ → ℕ → ℕ
-respelled p c s = cond (c == 0 && is_spelled_out p s) 65535 c
 
 -- a quoted body; gone and new are what the address counted before and counts now
 abbrev pub requoted_body : Protocol → End → ℕ → ℕ → ℕ → List ℕ → List ℕ

@@ -1,7 +1,6 @@
 // ICMP errors and the packets that they quote: read from bytes, and written with the quoted end replaced.
 #![tactic(auto)]
 
-pub mod admission;
 pub mod laws;
 pub mod notice;
 pub mod reader;

@@ -1,9 +1,10 @@
 // What is read of an error and of the packet that it quotes.
 use mappings::event::Protocol;
-use packets::facts::{Endpoint, Facts, Heading};
+use packets::admission::Headed;
+use packets::facts::{Endpoint, Heading, Reading};
 
 // The packet that an error quotes, as far as it is quoted.
-#[derive(Clone, Copy)]
+#[derive(Clone, Copy, Debug, PartialEq, Eq)]
 pub struct Quote {
     pub protocol: Protocol,
     pub source: Endpoint,
@@ -11,15 +12,19 @@ pub struct Quote {
 }
 
 // An error: its own header, and what it quotes.
-#[derive(Clone, Copy)]
+#[derive(Clone, Copy, Debug, PartialEq, Eq)]
 pub struct Notice {
     pub heading: Heading,
     pub quote: Quote,
 }
 
-// A packet, or an error about one.
-#[derive(Clone, Copy)]
-pub enum Message {
-    Packet(Facts),
-    Error(Notice),
+impl Headed for Notice {
+    ghost heading = { λ x. x.heading };
+
+    fn heading(self) -> Heading {
+        self.heading
+    }
 }
+
+// A packet, or an error about one.
+pub type Message = Reading<Notice>;

@@ -19,6 +19,7 @@ use Rattle.mappings.proofs.Tracing as tracing
 use Rattle.packets.specs.declared.facts.End.TheVariants.{Source}
 use Rattle.packets.specs.declared.facts.Endpoint.{Endpoint}
 use Rattle.packets.specs.declared.facts.Facts.{Facts}
+use Rattle.packets.specs.declared.facts.Heading.{Heading}
 use Rattle.packets.specs.declared.facts.Reading.{Reading}
 use Rattle.packets.specs.declared.facts.Reading.TheVariants as reading
 use Rattle.packets.specs.Laws.{FreshSums}
@@ -94,7 +95,7 @@ refused_verdict ours (verdict.Delivered n q) r o = tracing.clash (cc)
 refused_verdict ours (verdict.Refused k) r o = cc
 refused_verdict ours verdict.Ticked r o = tracing.clash (cc)
 
-refused_left : (c : Config) (hops : ℕ) (q : Result Reading Refusal) (r : Refusal) (bs : List ℕ) → left_by c hops q (verdict.Refused r) bs ≡ bs
+refused_left : (c : Config) (hops : ℕ) (q : Result (Reading Heading) Refusal) (r : Refusal) (bs : List ℕ) → left_by c hops q (verdict.Refused r) bs ≡ bs
 refused_left c hops (Ok (reading.Packet f)) r bs = refl
 refused_left c hops (Ok (reading.Error h)) r bs = refl
 refused_left c hops (Err e) r bs = refl

@@ -13,6 +13,7 @@ use Rattle.mappings.specs.States.{State}
 use Rattle.mappings.specs.Steps.{step}
 use Rattle.mappings.specs.Runs.{state_after}
 use Rattle.packets.specs.declared.facts.Facts.{Facts}
+use Rattle.packets.specs.declared.facts.Heading.{Heading}
 use Rattle.packets.specs.declared.facts.Reading.{Reading}
 use Rattle.packets.specs.declared.facts.Reading.TheVariants as reading
 use Rattle.packets.specs.Reading.{read_of, source_of, ttl_of}
@@ -34,7 +35,7 @@ pub data Tells (c : Config) : ℕ → List ℕ → Event → Type 0 where
   ticks : Tells c 0 [] event.Tick
 
 module _ (c : Config) (bs : List ℕ) where
-  inward_tells : (hops : ℕ) (r : Reading) → read_of bs ≡ Ok r → Tells c hops bs (inward c r)
+  inward_tells : (hops : ℕ) (r : Reading Heading) → read_of bs ≡ Ok r → Tells c hops bs (inward c r)
   inward_tells hops (reading.Packet f) read = go (eqb f.destination.address c.external) refl
     where
       go : (b : Bool) → eqb f.destination.address c.external ≡ b →
@@ -43,24 +44,24 @@ module _ (c : Config) (bs : List ℕ) where
       go false e = nothing NoMapping
   inward_tells hops (reading.Error h) read = nothing UnrelatedError
 
-  outward_tells : (n : ℕ) (r : Reading) → read_of bs ≡ Ok r → subscriber_at c (source_of r) ≡ Some n → Tells c 1 bs (outward n r)
+  outward_tells : (n : ℕ) (r : Reading Heading) → read_of bs ≡ Ok r → subscriber_at c (source_of r) ≡ Some n → Tells c 1 bs (outward n r)
   outward_tells n (reading.Packet f) read its = goes n f read its
   outward_tells n (reading.Error h) read its = nothing UnrelatedError
 
   -- what has no time to live left tells nothing
-  admitted_tells : (go : Reading → Event) (r : Reading) → Tells c 1 bs (go r) → (expired : Bool) → Tells c 1 bs (accepted go (cond expired (Err Expired) (Ok r)))
+  admitted_tells : (go : Reading Heading → Event) (r : Reading Heading) → Tells c 1 bs (go r) → (expired : Bool) → Tells c 1 bs (accepted go (cond expired (Err Expired) (Ok r)))
   admitted_tells go r t true = nothing Expired
   admitted_tells go r t false = t
 
-  from_tells : (r : Reading) → read_of bs ≡ Ok r → (o : Option ℕ) → subscriber_at c (source_of r) ≡ o → Tells c 1 bs (from_subscriber o r)
+  from_tells : (r : Reading Heading) → read_of bs ≡ Ok r → (o : Option ℕ) → subscriber_at c (source_of r) ≡ o → Tells c 1 bs (from_subscriber o r)
   from_tells r read None e = nothing NoSubscriber
   from_tells r read (Some n) e = admitted_tells (outward n) r (outward_tells n r read e) (leb (ttl_of r) 1)
 
-  arriving_tells : (side : Side) (r : Reading) → read_of bs ≡ Ok r → Tells c 1 bs (arriving c side r)
+  arriving_tells : (side : Side) (r : Reading Heading) → read_of bs ≡ Ok r → Tells c 1 bs (arriving c side r)
   arriving_tells Inside r read = from_tells r read (subscriber_at c (source_of r)) refl
   arriving_tells Outside r read = admitted_tells (inward c) r (inward_tells 1 r read) (leb (ttl_of r) 1)
 
-  accepted_tells : (hops : ℕ) (go : Reading → Event) → ((r : Reading) → read_of bs ≡ Ok r → Tells c hops bs (go r)) → (q : Result Reading Refusal) → read_of bs ≡ q → Tells c hops bs (accepted go q)
+  accepted_tells : (hops : ℕ) (go : Reading Heading → Event) → ((r : Reading Heading) → read_of bs ≡ Ok r → Tells c hops bs (go r)) → (q : Result (Reading Heading) Refusal) → read_of bs ≡ q → Tells c hops bs (accepted go q)
   accepted_tells hops go t (Ok r) e = t r e
   accepted_tells hops go t (Err x) e = nothing x
 

@@ -14,6 +14,7 @@ use Rattle.mappings.specs.Steps.{step}
 use Rattle.mappings.specs.Runs.{Occurrence, occurrence, run, state_after}
 use Rattle.packets.specs.declared.facts.End.TheVariants.{Source, Destination}
 use Rattle.packets.specs.declared.facts.Facts.{Facts}
+use Rattle.packets.specs.declared.facts.Heading.{Heading}
 use Rattle.packets.specs.declared.facts.Reading.{Reading}
 use Rattle.packets.specs.declared.facts.Reading.TheVariants as reading
 use Rattle.packets.specs.Reading.{destination_of, read_of}
@@ -24,7 +25,7 @@ use Rattle.hairpin.specs.declared.outcome.Outcome.TheVariants as outcome
 use Rattle.hairpin.specs.Events.{event_of, return_of}
 
 -- a packet to our own external address
-abbrev pub is_to_us : Config → Result Reading Refusal → Bool
+abbrev pub is_to_us : Config → Result (Reading Heading) Refusal → Bool
 is_to_us c (Ok r) = destination_of r == c.external
 is_to_us c (Err e) = false
 
@@ -46,7 +47,7 @@ rewritten c hops f (verdict.Delivered n q) bs = sent hops f.protocol Destination
 rewritten c hops f (verdict.Refused r) bs = bs
 rewritten c hops f verdict.Ticked bs = bs
 
-abbrev pub left_by : Config → ℕ → Result Reading Refusal → Verdict → List ℕ → List ℕ
+abbrev pub left_by : Config → ℕ → Result (Reading Heading) Refusal → Verdict → List ℕ → List ℕ
 left_by c hops (Ok (reading.Packet f)) v bs = rewritten c hops f v bs
 left_by c hops (Ok (reading.Error h)) v bs = bs
 left_by c hops (Err e) v bs = bs

@@ -19,7 +19,6 @@ pub mod Rested
 pub mod TracingByTick
 pub mod Answers
 pub mod Memory
-pub mod Tables
 pub mod Service
 pub mod Quiet
 pub mod Alone

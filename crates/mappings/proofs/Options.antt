@@ -1,5 +1,5 @@
 -- What there is and what there is not: values of Option told apart.
-use Rattle.std.proofs.Common.{◌≡◌, ℕ, true, false, ◌⊎◌, is_some as option_is_some, Some, None, Option, sym, refl, inl, inr, arith}
+use Rattle.std.proofs.Common.{◌≡◌, ℕ, true, false, is_some as option_is_some, Some, None, Option, sym, refl, arith}
 
 pub none_not_some : {A : Type 0} {x : A} {P : Type 0} → None ≡ Some x → P
 none_not_some {A} {x} {P} e = let z : ◌≡◌ {A = ℕ} 0 1 = cc in absurd (omega arith)
@@ -9,11 +9,6 @@ same_some e = cc
 
 pub true_not_false : {P : Type 0} → true ≡ false → P
 true_not_false {P} e = let z : ◌≡◌ {A = ℕ} 0 1 = cc in absurd (omega arith)
-
--- a value with the equation that it is this one
-pub some_or_none : {A : Type 0} (o : Option A) → (o ≡ None) ⊎ ((x : A) × (o ≡ Some x))
-some_or_none None = inl refl
-some_or_none (Some x) = inr (x, refl)
 
 pub not_some : {A : Type 0} (o : Option A) → option_is_some o ≡ false → o ≡ None
 not_some None e = refl

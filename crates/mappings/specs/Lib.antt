@@ -2,7 +2,6 @@
 pub mod Searches
 pub mod Mappings
 pub mod States
-pub mod Tables
 pub mod Steps
 pub mod Runs
 pub mod Books

@@ -1,12 +1,11 @@
 -- Plain facts about a packet that was read: its lengths, its version, and its right sums.
-use Rattle.std.proofs.Common.{◌≡◌, ℕ, ◌+◌, ◌≤◌, true, false, eqb, List, length, refl, inl, inr, zero-add, arith, length-take}
-use Rattle.std.proofs.lemmas.Bool.{or_cases, both_ways}
+use Rattle.std.proofs.Common.{◌≡◌, ℕ, ◌+◌, ◌≤◌, true, false, List, length, refl, zero-add, arith, length-take}
 use Rattle.std.proofs.lemmas.Bool.Decides.{nat_tests}
-use Rattle.sums.specs.Words.{word_at, word_sum}
+use Rattle.sums.specs.Words.{word_sum}
 use Rattle.sums.specs.Sums.{right}
 use Rattle.mappings.specs.declared.event.Protocol.{Protocol}
 use Rattle.mappings.specs.declared.event.Protocol.TheVariants.{Udp, Tcp, Echo}
-use Rattle.packets.specs.Fields.{header_of, version_and_length, total_length, pseudo_sum}
+use Rattle.packets.specs.Fields.{header_of, version_and_length, total_length}
 use Rattle.packets.specs.Reading.{plain_header, body_fits, body_right}
 use Rattle.packets.specs.Writing.{Besides, besides, has_no_sum, least_of}
 use Rattle.packets.proofs.Readable.{payload_for}
@@ -25,11 +24,7 @@ fits_least Tcp b e = grind (arith, nat_tests)
 fits_least Echo b e = grind (arith, nat_tests)
 
 pub right_body : (p : Protocol) (h b : List ℕ) → body_right (payload_for p) h b ≡ true → has_no_sum p b ≡ false → right (besides p h (length b) + word_sum b) ≡ true
-right_body Udp h b e n =
-    elim (or_cases (eqb (word_at b 6) 0) (right (pseudo_sum h (length b) + word_sum b)) e) [
-      | inl none ↦ absurd (both_ways (eqb (word_at b 6) 0) n none)
-      | inr r ↦ r
-    ]
+right_body Udp h b e n = grind (arith, nat_tests)
 right_body Tcp h b e n = e
 right_body Echo h b e n = rw zero-add e
 

@@ -1,9 +1,8 @@
 -- What leaves is read again, with the new facts: its tests pass, and its fields are those put and those left.
-use Rattle.std.proofs.Common.{◌≡◌, ℕ, ◌+◌, ◌<◌, ◌≤◌, Bool, true, ◌&&◌, ◌||◌, eqb, ◌⊎◌, List, ◌++◌, length, Ok, sym, refl, ap, ◌∙◌, subst, inl, inr, zero-add, arith}
-use Rattle.std.proofs.lemmas.List.{length-append}
-use Rattle.std.proofs.lemmas.Bool.{cases_Bool, eqb-true, eq-eqb, or_left, or_right}
-use Rattle.sums.specs.Words.{byte_at, word_at, word_sum}
-use Rattle.sums.specs.Sums.{right}
+use Rattle.std.proofs.Common.{◌≡◌, ℕ, ◌+◌, ◌<◌, ◌≤◌, true, ◌⊎◌, List, ◌++◌, length, Ok, sym, refl, ap, ◌∙◌, inl, inr, arith}
+use Rattle.std.proofs.lemmas.Bool.Decides.{nat_tests}
+use Rattle.std.proofs.lemmas.List.{drop_at, length-append, take_at}
+use Rattle.sums.specs.Words.{word_at}
 use Rattle.mappings.specs.declared.event.Protocol.{Protocol}
 use Rattle.mappings.specs.declared.event.Protocol.TheVariants.{Udp, Tcp, Echo}
 use Rattle.packets.specs.declared.facts.End.{End}
@@ -12,14 +11,13 @@ use Rattle.packets.specs.declared.facts.Endpoint.{Endpoint}
 use Rattle.packets.specs.declared.facts.Facts.{Facts}
 use Rattle.packets.specs.declared.facts.Reading.TheVariants.{Packet}
 use Rattle.packets.specs.Fields.{header_of, body_of, opposite, payload_of, port_at, pseudo_sum, sum_at}
-use Rattle.packets.specs.Reading.{body_fits, body_right, facts_of, is_echo, read_of}
-use Rattle.packets.specs.Writing.{besides, has_no_sum, least_of, sent, sent_body, sent_header}
+use Rattle.packets.specs.Reading.{body_fits, body_right, facts_of, read_of}
+use Rattle.packets.specs.Writing.{besides, least_of, sent, sent_body, sent_header}
 use Rattle.packets.specs.Laws.{ReadAgain, other_port, relocated}
 use Rattle.packets.proofs.Readable.{Read, Readable, is_read, is_own, payload_for, was_read}
 use Rattle.packets.proofs.Accepted.{fits_least, length_header}
 use Rattle.packets.proofs.Headers.{length_sent_header}
 use Rattle.packets.proofs.Bodies.{length_sent_body}
-use Rattle.packets.proofs.Halves.{body_out, header_out}
 use Rattle.packets.proofs.SentHeaders.{address_put, address_stays, header_right, header_ttl, low_byte, plain_sent}
 use Rattle.packets.proofs.SentBodies.{body_byte, port_put, sum_none, sum_right}
 
@@ -27,12 +25,7 @@ module _ (extra port : ℕ) (b : List ℕ) where
   -- a word that shares no byte with the port and the sum
   word_stays : (p : Protocol) (e : End) (j : ℕ) → (j + 1 < port_at p e) ⊎ (port_at p e + 1 < j) → (j + 1 < sum_at p) ⊎ (sum_at p + 1 < j) →
       word_at (sent_body p e extra port b) j ≡ word_at b j
-  word_stays p e j out-port out-sum =
-      let high : byte_at (sent_body p e extra port b) j ≡ byte_at b j =
-      body_byte p e extra port b j (elim out-port [ inl k ↦ inl (omega arith) | inr k ↦ inr (omega arith) ]) (elim out-sum [ inl k ↦ inl (omega arith) | inr k ↦ inr (omega arith) ]) in
-      let low : byte_at (sent_body p e extra port b) (j + 1) ≡ byte_at b (j + 1) =
-      body_byte p e extra port b (j + 1) (elim out-port [ inl k ↦ inl (omega arith) | inr k ↦ inr (omega arith) ]) (elim out-sum [ inl k ↦ inl (omega arith) | inr k ↦ inr (omega arith) ]) in
-      omega arith
+  word_stays p e j out-port out-sum = grind (arith, body_byte p e extra port b j, body_byte p e extra port b (j + 1))
 
   -- the other end's port
   other_port_lem : (p : Protocol) (e : End) → least_of p ≤ length b →
@@ -46,77 +39,49 @@ module _ (extra port : ℕ) (b : List ℕ) where
 
   -- the lengths inside still fit
   fits_sent : (p : Protocol) (e : End) → body_fits (payload_for p) b ≡ true → body_fits (payload_for p) (sent_body p e extra port b) ≡ true
-  fits_sent Udp e t =
-      let l : length (sent_body Udp e extra port b) ≡ length b = length_sent_body Udp e extra port b in
-      let w : word_at (sent_body Udp e extra port b) 4 ≡ word_at b 4 = word_stays Udp e 4 (before e) (inl (omega arith)) in
-      cc
-    where
-      before : (e : End) → (4 + 1 < port_at Udp e) ⊎ (port_at Udp e + 1 < 4)
-      before Source = inr (omega arith)
-      before Destination = inr (omega arith)
-  fits_sent Tcp e t =
-      let l : length (sent_body Tcp e extra port b) ≡ length b = length_sent_body Tcp e extra port b in
-      let w : byte_at (sent_body Tcp e extra port b) 12 ≡ byte_at b 12 = body_byte Tcp e extra port b 12 (before e) (inl (omega arith)) in
-      cc
-    where
-      before : (e : End) → (12 < port_at Tcp e) ⊎ (port_at Tcp e + 1 < 12)
-      before Source = inr (omega arith)
-      before Destination = inr (omega arith)
-  fits_sent Echo e t =
-      let l : length (sent_body Echo e extra port b) ≡ length b = length_sent_body Echo e extra port b in
-      cc
+  fits_sent Udp e t = grind (arith, nat_tests, length_sent_body Udp e extra port b, word_stays Udp e 4)
+  fits_sent Tcp e t = grind (arith, nat_tests, length_sent_body Tcp e extra port b, body_byte Tcp e extra port b 12)
+  fits_sent Echo e t = grind (arith, nat_tests, length_sent_body Echo e extra port b)
 
   -- an echo stays an echo
-  first_bytes : (e : End) (j : ℕ) → j < 2 → byte_at (sent_body Echo e extra port b) j ≡ byte_at b j
-  first_bytes Source j k = body_byte Echo Source extra port b j (inl (omega arith)) (inl (omega arith))
-  first_bytes Destination j k = body_byte Echo Destination extra port b j (inl (omega arith)) (inl (omega arith))
-
-  echo_sent : (e : End) → is_echo (sent_body Echo e extra port b) ≡ is_echo b
-  echo_sent e =
-      ap (λ kind. (eqb kind 8 || eqb kind 0) && eqb (byte_at (sent_body Echo e extra port b) 1) 0) (first_bytes e 0 (omega arith))
-      ∙ ap (λ code. (eqb (byte_at b 0) 8 || eqb (byte_at b 0) 0) && eqb code 0) (first_bytes e 1 (omega arith))
-
   own_sent : (p : Protocol) (e : End) → is_own p b ≡ true → is_own p (sent_body p e extra port b) ≡ true
   own_sent Udp e t = refl
   own_sent Tcp e t = refl
-  own_sent Echo e t = echo_sent e ∙ t
+  own_sent Echo e t = grind (arith, nat_tests, body_byte Echo e extra port b 0, body_byte Echo e extra port b 1)
 
 -- the body's sum is right, where there is one
 right_sent : (p : Protocol) (e : End) (h : List ℕ) (port : ℕ) (b : List ℕ) → least_of p ≤ length b →
     body_right (payload_for p) h (sent_body p e (besides p h (length b)) port b) ≡ true
 right_sent Udp e h port b l =
     let x : ℕ = pseudo_sum h (length b) in
-    let sum : Bool = right (pseudo_sum h (length (sent_body Udp e x port b)) + word_sum (sent_body Udp e x port b)) in
-    elim (cases_Bool (has_no_sum Udp b)) [
-      | inl none ↦
-          or_left (eqb (word_at (sent_body Udp e x port b) 6) 0) sum
-          (eq-eqb (word_at (sent_body Udp e x port b) 6) 0 (sum_none Udp e x port b l none ∙ eqb-true (word_at b 6) 0 none))
-      | inr some ↦
-          or_right (eqb (word_at (sent_body Udp e x port b) 6) 0) sum
-          (subst (λ n. right (pseudo_sum h n + word_sum (sent_body Udp e x port b)) ≡ true) (sym (length_sent_body Udp e x port b)) (sum_right Udp e x port b l some))
-    ]
+    grind (arith, nat_tests, length_sent_body Udp e x port b, sum_none Udp e x port b l, sum_right Udp e x port b l)
 right_sent Tcp e h port b l =
-    let s : length (sent_body Tcp e (pseudo_sum h (length b)) port b) ≡ length b = length_sent_body Tcp e (pseudo_sum h (length b)) port b in
-    subst (λ n. right (pseudo_sum h n + word_sum (sent_body Tcp e (pseudo_sum h (length b)) port b)) ≡ true) (sym s)
-    (sum_right Tcp e (pseudo_sum h (length b)) port b l refl)
-right_sent Echo e h port b l = rw (zero-add (word_sum (sent_body Echo e 0 port b))) at (sum_right Echo e 0 port b l refl)
-
--- facts are the same where their parts are
-same_parts : (p : Protocol) {a a' q q' d d' w w' t t' : ℕ} → a ≡ a' → q ≡ q' → d ≡ d' → w ≡ w' → t ≡ t' →
-    ◌≡◌ {A = Facts} (record { protocol = p; source = record { address = a; port = q }; destination = record { address = d; port = w }; ttl = t })
-    (record { protocol = p; source = record { address = a'; port = q' }; destination = record { address = d'; port = w' }; ttl = t' })
-same_parts p a q d w t = cc
+    let x : ℕ = pseudo_sum h (length b) in
+    grind (arith, nat_tests, length_sent_body Tcp e x port b, sum_right Tcp e x port b l refl)
+right_sent Echo e h port b l = grind (arith, sum_right Echo e 0 port b l refl)
 
 -- the facts of the packet that leaves
 module _ (hops : ℕ) (n : Endpoint) (h b : List ℕ) (extra : ℕ) (l : length h ≡ 20) where
   facts_sent : (p : Protocol) (e : End) → least_of p ≤ length b →
       facts_of p (sent_header hops e n.address h) (sent_body p e extra n.port b) ≡ relocated hops e n (facts_of p h b)
   facts_sent p Source k =
-      same_parts p (address_put hops Source n.address h l) (port_put p Source extra n.port b k)
-      (address_stays hops Source n.address h) (other_port_lem extra n.port b p Source k) (header_ttl hops Source n.address h l)
+      grind (
+        arith,
+        address_put hops Source n.address h l,
+        port_put p Source extra n.port b k,
+        address_stays hops Source n.address h,
+        other_port_lem extra n.port b p Source k,
+        header_ttl hops Source n.address h l,
+      )
   facts_sent p Destination k =
-      same_parts p (address_stays hops Destination n.address h) (other_port_lem extra n.port b p Destination k)
-      (address_put hops Destination n.address h l) (port_put p Destination extra n.port b k) (header_ttl hops Destination n.address h l)
+      grind (
+        arith,
+        address_put hops Destination n.address h l,
+        port_put p Destination extra n.port b k,
+        address_stays hops Destination n.address h,
+        other_port_lem extra n.port b p Destination k,
+        header_ttl hops Destination n.address h l,
+      )
 
 -- the packet that leaves, as its two parts
 abbrev pub header_sent : ℕ → End → Endpoint → List ℕ → List ℕ
@@ -134,10 +99,10 @@ module _ (bs : List ℕ) (f : Facts) (hops : ℕ) (e : End) (n : Endpoint) (r : 
   header_long = length_sent_header hops e n.address (header_of bs) ∙ length_header bs r.long
 
   pub header_there : header_of (sent hops f.protocol e n bs) ≡ header_sent hops e n bs
-  header_there = ap header_of (sent_parts hops f.protocol e n bs) ∙ header_out 20 (header_sent hops e n bs) (body_sent hops f.protocol e n bs) header_long
+  header_there = ap header_of (sent_parts hops f.protocol e n bs) ∙ take_at (header_sent hops e n bs) (body_sent hops f.protocol e n bs) 20 header_long
 
   pub body_there : body_of (sent hops f.protocol e n bs) ≡ body_sent hops f.protocol e n bs
-  body_there = ap body_of (sent_parts hops f.protocol e n bs) ∙ body_out 20 (header_sent hops e n bs) (body_sent hops f.protocol e n bs) header_long
+  body_there = ap body_of (sent_parts hops f.protocol e n bs) ∙ drop_at (header_sent hops e n bs) (body_sent hops f.protocol e n bs) 20 header_long
 
   pub least_there : least_of f.protocol ≤ length (body_of bs)
   least_there = fits_least f.protocol (body_of bs) r.tests.fits
@@ -168,13 +133,8 @@ module _ (bs : List ℕ) (f : Facts) (hops : ℕ) (e : End) (n : Endpoint) (r : 
 
   sent_read : read_of (sent hops f.protocol e n bs) ≡ Ok (Packet (relocated hops e n f))
   sent_read =
-      let tests : Readable f.protocol (header_of (sent hops f.protocol e n bs)) (body_of (sent hops f.protocol e n bs)) =
-      subst (λ c. Readable f.protocol (header_of (sent hops f.protocol e n bs)) c) (sym body_there)
-      (subst (λ g. Readable f.protocol g (body_sent hops f.protocol e n bs)) (sym header_there) sent_tests) in
-      is_read (sent hops f.protocol e n bs) f.protocol sent_long tests
-      ∙ (ap (λ g. Ok (Packet (facts_of f.protocol g (body_of (sent hops f.protocol e n bs))))) header_there
-      ∙ (ap (λ c. Ok (Packet (facts_of f.protocol (header_sent hops e n bs) c))) body_there
-      ∙ ap (λ g. Ok (Packet g)) sent_facts))
+      let tests : Readable f.protocol (header_of (sent hops f.protocol e n bs)) (body_of (sent hops f.protocol e n bs)) = rw (header_there, body_there) sent_tests in
+      is_read (sent hops f.protocol e n bs) f.protocol sent_long tests ∙ rw (header_there, body_there, sent_facts) refl
 
 pub read_again : ReadAgain
 read_again bs f hops e n read = sent_read bs f hops e n (was_read bs f read)

@@ -1,5 +1,5 @@
 -- A header with an address replaced and the time to live lowered: what the edit did to its sum, and what it left alone.
-use Rattle.std.proofs.Common.{◌≡◌, ℕ, ◌+◌, ◌-◌, ◌*◌, ◌/◌, ◌%◌, ◌<◌, true, ◌≢◌, List, length, set, sym, ap, ◌∙◌, zero-add, arith}
+use Rattle.std.proofs.Common.{◌≡◌, ℕ, ◌+◌, ◌-◌, ◌*◌, ◌/◌, ◌%◌, ◌<◌, true, ◌≢◌, List, length, set, ◌∙◌, zero-add, arith}
 use Rattle.std.proofs.lemmas.List.{get_or-set_other, length-set}
 use Rattle.sums.specs.Words.{byte_at, word_at, put_word, put_long, word_sum}
 use Rattle.sums.specs.Sums.{fresh, right, moved, rest_sum}
@@ -14,17 +14,11 @@ use Rattle.packets.specs.Writing.{readdressed, sent_header}
 
 -- a word behind the time to live stays when that is lowered
 word_lowered : (h : List ℕ) (t j : ℕ) → 8 < j → word_at (set h 8 t) j ≡ word_at h j
-word_lowered h t j behind =
-    let high : byte_at (set h 8 t) j ≡ byte_at h j = get_or-set_other h 8 j t 0 (omega arith) in
-    let low : byte_at (set h 8 t) (j + 1) ≡ byte_at h (j + 1) = get_or-set_other h 8 (j + 1) t 0 (omega arith) in
-    omega arith
+word_lowered h t j behind = grind (arith, get_or-set_other)
 
 module _ (hops a : ℕ) (h : List ℕ) where
   place_byte : (k j : ℕ) → 11 < 2 * k → j ≢ 8 → j < 12 → byte_at (put_long (set h 8 (time_to_live h - hops)) (2 * k) a) j ≡ byte_at h j
-  place_byte k j behind ne below =
-      byte_other (put_word (set h 8 (time_to_live h - hops)) (2 * k) (a / 65536)) (2 * k + 2) (a % 65536) j (omega arith) (omega arith)
-      ∙ (byte_other (set h 8 (time_to_live h - hops)) (2 * k) (a / 65536) j (omega arith) (omega arith)
-      ∙ get_or-set_other h 8 j (time_to_live h - hops) 0 ne)
+  place_byte k j behind ne below = grind (arith, byte_other, get_or-set_other)
 
   place_edit : (k : ℕ) → 11 < 2 * k → 2 * k + 3 < length h →
       Edit h (put_long (set h 8 (time_to_live h - hops)) (2 * k) a) (time_to_live h * 256 + (word_at h (2 * k) + word_at h (2 * k + 2)))
@@ -66,8 +60,7 @@ header_moved hops e a h l v r =
     let at-ten : 2 * 5 + 1 < length h = omega arith in
     let law : moved (word_at h 10) (0 + gone) (0 + new) ≡ fresh (rest_sum 0 g 10) =
     moved_is_fresh 5 h g gone new 0 0 at-ten (readdressed_edit hops e a h l) same whole some in
-    ap (λ w. moved w gone new) same
-    ∙ (ap (λ x. moved (word_at h 10) x new) (sym (zero-add gone)) ∙ (ap (λ x. moved (word_at h 10) (0 + gone) x) (sym (zero-add new)) ∙ law))
+    rw (same, ← zero-add gone, ← zero-add new) law
 
 pub length_readdressed : (hops : ℕ) (e : End) (a : ℕ) (h : List ℕ) → length (readdressed hops e a h) ≡ length h
 length_readdressed hops e a h = length_put_long (set h 8 (time_to_live h - hops)) (address_at e) a ∙ length-set h 8 (time_to_live h - hops)

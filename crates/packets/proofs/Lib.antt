@@ -2,10 +2,10 @@ pub mod Headers
 pub mod Bodies
 pub mod Readable
 pub mod Accepted
-pub mod Halves
 pub mod SentHeaders
 pub mod SentBodies
 pub mod Again
 pub mod Fresh
 pub mod Untouched
 pub mod Back
+pub mod Blank

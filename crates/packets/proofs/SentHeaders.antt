@@ -1,5 +1,6 @@
 -- Laws of a header as it is sent: what is read from it, and that its sum is fresh and right.
-use Rattle.std.proofs.Common.{◌≡◌, ℕ, ◌+◌, ◌-◌, ◌*◌, ◌<◌, ◌≤◌, true, ◌≢◌, ◌⊎◌, List, length, set, sym, ap, ◌∙◌, inl, inr, zero-add, arith}
+use Rattle.std.proofs.Common.{◌≡◌, ℕ, ◌+◌, ◌-◌, ◌*◌, ◌<◌, true, ◌≢◌, ◌⊎◌, List, length, set, sym, ap, ◌∙◌, inl, inr, zero-add, arith}
+use Rattle.std.proofs.lemmas.Bool.Decides.{nat_tests}
 use Rattle.std.proofs.lemmas.List.{get_or-set_other, get_or-set_same, length-set}
 use Rattle.sums.specs.Words.{byte_at, word_at, long_at, put_word, put_long, word_sum}
 use Rattle.sums.specs.Sums.{fresh, right, rest_sum}
@@ -16,21 +17,9 @@ use Rattle.packets.proofs.Headers.{length_readdressed}
 module _ (hops : ℕ) (e : End) (a : ℕ) (h : List ℕ) where
   -- a byte that is neither of the time to live, the sum nor the address
   pub header_byte : (j : ℕ) → j ≢ 8 → (j < 10) ⊎ (11 < j) → (j < address_at e) ⊎ (address_at e + 3 < j) → byte_at (sent_header hops e a h) j ≡ byte_at h j
-  header_byte j ttl sum address =
-      byte_other (readdressed hops e a h) 10 (fresh (rest_sum 0 (readdressed hops e a h) 10)) j (omega arith) (omega arith)
-      ∙ (byte_apart (set h 8 (time_to_live h - hops)) (address_at e) a j address
-      ∙ get_or-set_other h 8 j (time_to_live h - hops) 0 ttl)
+  header_byte j ttl sum address = grind (arith, byte_other, byte_apart, get_or-set_other)
 
   module _ (l : length h ≡ 20) where
-    pub header_ttl : time_to_live (sent_header hops e a h) ≡ time_to_live h - hops
-    header_ttl =
-        byte_other (readdressed hops e a h) 10 (fresh (rest_sum 0 (readdressed hops e a h) 10)) 8 (omega arith) (omega arith)
-        ∙ (before e ∙ get_or-set_same h 8 (time_to_live h - hops) 0 (omega arith))
-      where
-        before : (e : End) → byte_at (readdressed hops e a h) 8 ≡ byte_at (set h 8 (time_to_live h - hops)) 8
-        before Source = byte_apart (set h 8 (time_to_live h - hops)) 12 a 8 (inl (omega arith))
-        before Destination = byte_apart (set h 8 (time_to_live h - hops)) 16 a 8 (inl (omega arith))
-
     header_ten : 2 * 5 + 1 < length (readdressed hops e a h)
     header_ten = omega (arith, length_readdressed hops e a h)
 
@@ -45,6 +34,10 @@ module _ (hops : ℕ) (e : End) (a : ℕ) (h : List ℕ) where
         right_there 0 5 (readdressed hops e a h) (fresh (rest_sum 0 (readdressed hops e a h) 10)) header_ten (fresh_right (rest_sum 0 (readdressed hops e a h) 10)) in
         rw (zero-add (word_sum (sent_header hops e a h))) at r
 
+pub header_ttl : (hops : ℕ) (e : End) (a : ℕ) (h : List ℕ) → length h ≡ 20 → time_to_live (sent_header hops e a h) ≡ time_to_live h - hops
+header_ttl hops Source a h l = grind (arith, byte_other, byte_apart, get_or-set_same)
+header_ttl hops Destination a h l = grind (arith, byte_other, byte_apart, get_or-set_same)
+
 -- what stands before the sum, but for the time to live, stays
 pub low_byte : (hops : ℕ) (e : End) (a : ℕ) (h : List ℕ) (j : ℕ) → j ≢ 8 → j < 10 → byte_at (sent_header hops e a h) j ≡ byte_at h j
 low_byte hops Source a h j ttl low = header_byte hops Source a h j ttl (inl low) (inl (omega arith))
@@ -52,23 +45,11 @@ low_byte hops Destination a h j ttl low = header_byte hops Destination a h j ttl
 
 pub plain_sent : (hops : ℕ) (e : End) (a : ℕ) (h b c : List ℕ) → length c ≡ length b → plain_header h b ≡ true → plain_header (sent_header hops e a h) c ≡ true
 unfolding plain_header
-plain_sent hops e a h b c l t =
-    let H : List ℕ = sent_header hops e a h in
-    let version : byte_at H 0 ≡ byte_at h 0 = low_byte hops e a h 0 (omega arith) (omega arith) in
-    let high : byte_at H 2 ≡ byte_at h 2 = low_byte hops e a h 2 (omega arith) (omega arith) in
-    let low : byte_at H 3 ≡ byte_at h 3 = low_byte hops e a h 3 (omega arith) (omega arith) in
-    let flags : byte_at H 6 ≡ byte_at h 6 = low_byte hops e a h 6 (omega arith) (omega arith) in
-    let offset : byte_at H 7 ≡ byte_at h 7 = low_byte hops e a h 7 (omega arith) (omega arith) in
-    cc (t)
+plain_sent hops e a h b c l t = grind (arith, nat_tests, low_byte hops e a h)
 
 -- the address put is read back
 put_there : (a s t at : ℕ) (h : List ℕ) → 11 < at → at + 3 < length h → long_at (put_word (put_long (set h 8 t) at a) 10 s) at ≡ a
-put_there a s t at h behind within =
-    let g : List ℕ = put_long (set h 8 t) at a in
-    let high : word_at (put_word g 10 s) at ≡ word_at g at = word_above g 10 s at (omega arith) in
-    let low : word_at (put_word g 10 s) (at + 2) ≡ word_at g (at + 2) = word_above g 10 s (at + 2) (omega arith) in
-    let long : long_at g at ≡ a = long_same (set h 8 t) at a (omega (arith, length-set h 8 t)) in
-    omega arith
+put_there a s t at h behind within = grind (arith, word_above, long_same, length-set)
 
 pub address_put : (hops : ℕ) (e : End) (a : ℕ) (h : List ℕ) → length h ≡ 20 → long_at (sent_header hops e a h) (address_at e) ≡ a
 address_put hops Source a h l = put_there a (fresh (rest_sum 0 (readdressed hops Source a h) 10)) (time_to_live h - hops) 12 h (omega arith) (omega arith)
@@ -76,16 +57,7 @@ address_put hops Destination a h l = put_there a (fresh (rest_sum 0 (readdressed
 
 -- and the other one stays
 stays_there : (hops : ℕ) (e : End) (a : ℕ) (h : List ℕ) (at : ℕ) → 11 < at → (at + 3 < address_at e) ⊎ (address_at e + 3 < at) → long_at (sent_header hops e a h) at ≡ long_at h at
-stays_there hops e a h at behind apart =
-    let stays : (j : ℕ) → at ≤ j → j < at + 4 → byte_at (sent_header hops e a h) j ≡ byte_at h j =
-    λ j low high. header_byte hops e a h j (omega arith) (inr (omega arith)) (elim apart [ inl below ↦ inl (omega arith) | inr above ↦ inr (omega arith) ]) in
-    omega (
-      arith,
-      stays at (omega arith) (omega arith),
-      stays (at + 1) (omega arith) (omega arith),
-      stays (at + 2) (omega arith) (omega arith),
-      stays (at + 2 + 1) (omega arith) (omega arith),
-    )
+stays_there hops e a h at behind apart = grind (arith, header_byte hops e a h)
 
 pub address_stays : (hops : ℕ) (e : End) (a : ℕ) (h : List ℕ) → long_at (sent_header hops e a h) (address_at (opposite e)) ≡ long_at h (address_at (opposite e))
 address_stays hops Source a h = stays_there hops Source a h 16 (omega arith) (inr (omega arith))

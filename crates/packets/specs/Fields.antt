@@ -45,6 +45,13 @@ abbrev pub address_at : End → ℕ
 address_at Source = 12
 address_at Destination = 16
 
+-- the two words of an address, added: of one in a header, and of a new one
+abbrev pub address_sum : End → List ℕ → ℕ
+address_sum e h = word_at h (address_at e) + word_at h (address_at e + 2)
+
+abbrev pub halves : ℕ → ℕ
+halves address = address / 65536 + address % 65536
+
 abbrev pub payload_of : ℕ → Payload
 payload_of n = cond (n == 17) Datagram (cond (n == 6) Segment (cond (n == 1) Message Other))
 

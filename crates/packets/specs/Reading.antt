@@ -52,34 +52,46 @@ is_echo b = (icmp_kind b == 8 || icmp_kind b == 0) && icmp_code b == 0
 abbrev pub is_error : List ℕ → Bool
 is_error b = icmp_kind b == 3 || icmp_kind b == 4 || icmp_kind b == 11 || icmp_kind b == 12
 
-abbrev pub message_of : List ℕ → List ℕ → Result Reading Refusal
+abbrev pub message_of : List ℕ → List ℕ → Result (Reading Heading) Refusal
 message_of h b = cond (is_echo b) (Ok (Packet (facts_of Echo h b))) (cond (is_error b) (Ok (Error (heading_of h))) (Err UnknownProtocol))
 
-abbrev pub named_of : Payload → List ℕ → List ℕ → Result Reading Refusal
+abbrev pub named_of : Payload → List ℕ → List ℕ → Result (Reading Heading) Refusal
 named_of Datagram h b = Ok (Packet (facts_of Udp h b))
 named_of Segment h b = Ok (Packet (facts_of Tcp h b))
 named_of Message h b = message_of h b
 named_of Other h b = Err UnknownProtocol
 
-unfoldable pub read_as : Payload → List ℕ → List ℕ → Result Reading Refusal
+unfoldable pub read_as : Payload → List ℕ → List ℕ → Result (Reading Heading) Refusal
 read_as y h b =
     cond (plain_header h b && body_fits y b) (cond (right (word_sum h) && body_right y h b) (named_of y h b) (Err WrongSum)) (Err BadHeader)
 
-unfoldable pub read_of : List ℕ → Result Reading Refusal
+unfoldable pub read_of : List ℕ → Result (Reading Heading) Refusal
 read_of bs = cond (nat_le 20 (length bs)) (read_as (payload_of (protocol_number (header_of bs))) (header_of bs) (body_of bs)) (Err BadHeader)
 
-abbrev pub source_of : Reading → ℕ
-source_of (Packet f) = f.source.address
-source_of (Error h) = h.source
+-- what stands in the header of what was read; of an error, heading says it
+abbrev pub heading_in : {E : Type 0} → (E → Heading) → Reading E → Heading
+heading_in heading (Packet f) = record { source = f.source.address; destination = f.destination.address; ttl = f.ttl }
+heading_in heading (Error x) = heading x
 
-abbrev pub destination_of : Reading → ℕ
-destination_of (Packet f) = f.destination.address
-destination_of (Error h) = h.destination
+abbrev pub source_in : {E : Type 0} → (E → Heading) → Reading E → ℕ
+source_in heading r = (heading_in heading r).source
 
-abbrev pub ttl_of : Reading → ℕ
-ttl_of (Packet f) = f.ttl
-ttl_of (Error h) = h.ttl
+abbrev pub destination_in : {E : Type 0} → (E → Heading) → Reading E → ℕ
+destination_in heading r = (heading_in heading r).destination
 
 -- what was read goes on, unless its time to live is used up
-abbrev pub admitted_of : Reading → Result Reading Refusal
-admitted_of r = cond (nat_le (ttl_of r) 1) (Err Expired) (Ok r)
+abbrev pub admitted_in : {E : Type 0} → (E → Heading) → Reading E → Result (Reading E) Refusal
+admitted_in heading r = cond (nat_le (heading_in heading r).ttl 1) (Err Expired) (Ok r)
+
+-- where of an error its heading was read, and nothing else
+abbrev pub source_of : Reading Heading → ℕ
+source_of r = source_in (λ h. h) r
+
+abbrev pub destination_of : Reading Heading → ℕ
+destination_of r = destination_in (λ h. h) r
+
+abbrev pub ttl_of : Reading Heading → ℕ
+ttl_of r = (heading_in (λ h. h) r).ttl
+
+abbrev pub admitted_of : Reading Heading → Result (Reading Heading) Refusal
+admitted_of r = admitted_in (λ h. h) r

@@ -1,5 +1,5 @@
 -- The packet that leaves: one end's address and port replaced, the time to live less by some hops, and every sum worked out afresh.
-use Rattle.std.specs.Prelude.{◌≡◌, ℕ, ◌-◌, ◌<◌, Bool, true, false, cond, List, ◌++◌, length, ◌==◌, slice_set}
+use Rattle.std.specs.Prelude.{◌≡◌, ℕ, ◌-◌, ◌<◌, Bool, true, false, cond, ◌&&◌, List, ◌++◌, length, ◌==◌, slice_set}
 use Rattle.sums.specs.Words.{word_at, put_word, put_long}
 use Rattle.sums.specs.Sums.{fresh, nonzero, rest_sum}
 use Rattle.mappings.specs.declared.event.Protocol.{Protocol}
@@ -47,6 +47,10 @@ abbrev pub is_spelled_out : Protocol → ℕ → Bool
 is_spelled_out Udp s = true
 is_spelled_out Tcp s = false
 is_spelled_out Echo s = s == 0
+
+-- a moved sum c in the spelling in which it is sent, where the other words of the body, or of what is quoted of it, add up to s
+abbrev pub respelled : Protocol → ℕ → ℕ → ℕ
+respelled p c s = cond (c == 0 && is_spelled_out p s) 65535 c
 
 -- how many bytes a body has at least
 abbrev pub least_of : Protocol → ℕ

@@ -44,6 +44,9 @@ pub const ICMP_SUM: usize = 2;
 
 pub const ECHO_IDENTIFIER: usize = 4;
 
+// An ICMP message begins with this many bytes, and what an error quotes follows them.
+pub const MESSAGE_HEADER: usize = 8;
+
 // Where an end's address stands in the header.
 pub fn address_at(end: End) -> usize
     ensures { result ≡ address_at end }

@@ -1,9 +1,11 @@
 // Reading a packet: its facts, or the refusal with the lowest number that applies.
 ghost use Rattle.std.specs.Prelude.{◌≡◌, ◌*◌, ◌^◌, ◌<◌, ◌≤◌, true, ◌&&◌, length, nat_le};
-ghost use Rattle.packets.specs.Fields.{least_body, payload_of, pseudo_sum};
-ghost use Rattle.packets.specs.Reading.{body_fits, body_right, endpoint_of, facts_of, heading_of, message_of, named_of, plain_header, read_as, read_of};
+ghost use Rattle.packets.specs.Fields.{least_body, pseudo_sum};
+ghost use Rattle.packets.specs.Reading.{body_fits, body_right, endpoint_of, facts_of, heading_of, message_of, plain_header, read_of};
 
-use crate::facts::{End, Endpoint, Facts, Heading, Payload, Reading};
+use crate::addresses::address_sum;
+use crate::facts::{End, Endpoint, Facts, Heading, Parsed, Payload, Reading};
+use crate::parts::Parts;
 use crate::places::{
     DESTINATION, FRAGMENT, HEADER, ICMP_CODE, ICMP_KIND, PROTOCOL, SOURCE, TCP_OFFSET,
     TOTAL_LENGTH, TTL, UDP_LENGTH, UDP_SUM, VERSION_AND_LENGTH, address_at, port_at,
@@ -14,43 +16,28 @@ use sums::words::{long_at, word_at};
 use sums::{is_right, word_sum};
 
 // What the packet of these bytes is, or why it is refused.
-pub fn read(packet: &[u8]) -> Result<Reading, Refusal>
+#[tactic(auto, using(std::proofs::lemmas::Bool::Decides::nat_tests), unfolding(crate::specs::Reading::read_of, crate::specs::Reading::read_as))]
+pub fn read(packet: &[u8]) -> Parsed
     ensures { result ≡ read_of packet.now }
 {
-    if packet.len() < HEADER {
-        return Err(Refusal::BadHeader);
-    }
-    let header = &packet[0..HEADER];
-    let body = &packet[HEADER..];
-    read_as(payload_of(header[PROTOCOL]), header, body)
-}
-
-fn read_as(payload: Payload, header: &[u8], body: &[u8]) -> Result<Reading, Refusal>
-    requires { length header.now ≡ 20 }
-    ensures { result ≡ read_as payload header.now body.now }
-{
+    let (header, body) = packet.split_first_chunk().ok_or(Refusal::BadHeader)?;
+    let payload = Payload::from(header[PROTOCOL]);
     if !is_plain(header, body) || !body_fits(payload, body) {
         return Err(Refusal::BadHeader);
     }
     if !is_right(word_sum(header)) || !is_body_right(payload, header, body) {
         return Err(Refusal::WrongSum);
     }
-    named(payload, header, body)
-}
-
-fn payload_of(number: u8) -> Payload
-    ensures { result ≡ payload_of number }
-{
-    match number {
-        17 => Payload::Datagram,
-        6 => Payload::Segment,
-        1 => Payload::Message,
-        _ => Payload::Other,
+    match payload {
+        Payload::Datagram => Ok(Reading::Packet(facts(Protocol::Udp, Parts { header, body }))),
+        Payload::Segment => Ok(Reading::Packet(facts(Protocol::Tcp, Parts { header, body }))),
+        Payload::Message => named_message(Parts { header, body }),
+        Payload::Other => Err(Refusal::UnknownProtocol),
     }
 }
 
-fn is_plain(header: &[u8], body: &[u8]) -> bool
-    requires { length header.now ≡ 20 }
+#[tactic(auto, using(std::proofs::lemmas::Bool::Decides::nat_tests), unfolding(crate::specs::Reading::plain_header))]
+fn is_plain(header: &[u8; HEADER], body: &[u8]) -> bool
     ensures is { result ≡ plain_header header.now body.now }
     ensures short { result ≡ true → length body.now < 65516 }
 {
@@ -79,20 +66,18 @@ fn is_offset_within(offset: u8, length: usize) -> bool
     offset >= 5 && 4 * usize::from(offset) <= length
 }
 
-// The plain sum of the pseudo-header of a body of `count` bytes.
-pub(crate) fn pseudo_sum(header: &[u8], count: u16) -> u32
-    requires { length header.now ≡ 20 }
+// The plain sum of the pseudo-header of a body of `count` bytes. That it is small is said again where it goes on,
+// since a sum of 32 bits is only then known to have room for the body's.
+pub(crate) fn pseudo_sum(header: &[u8; HEADER], count: u16) -> u32
     ensures is { result ≡ pseudo_sum header.now count }
     ensures small { result < 2 ^ 20 }
 {
-    let source = u32::from(word_at(header, SOURCE)) + u32::from(word_at(header, SOURCE + 2));
-    let destination = u32::from(word_at(header, DESTINATION))
-        + u32::from(word_at(header, DESTINATION + 2));
-    source + destination + u32::from(header[PROTOCOL]) + u32::from(count)
+    let addresses = address_sum(header, End::Source) + address_sum(header, End::Destination);
+    addresses + u32::from(header[PROTOCOL]) + u32::from(count)
 }
 
-fn is_body_right(payload: Payload, header: &[u8], body: &[u8]) -> bool
-    requires { (length header.now ≡ 20) × ((least_body payload ≤ length body.now) × (length body.now < 65516)) }
+fn is_body_right(payload: Payload, header: &[u8; HEADER], body: &[u8]) -> bool
+    requires { (least_body payload ≤ length body.now) × (length body.now < 65516) }
     ensures { result ≡ body_right payload header.now body.now }
 {
     match payload {
@@ -104,31 +89,29 @@ fn is_body_right(payload: Payload, header: &[u8], body: &[u8]) -> bool
     }
 }
 
-// One end of a packet of this protocol, from its header and body.
-pub fn endpoint(protocol: Protocol, end: End, header: &[u8], body: &[u8]) -> Endpoint
-    requires { (length header.now ≡ 20) × (8 ≤ length body.now) }
-    ensures { result ≡ endpoint_of protocol end header.now body.now }
+// One end of a packet of this protocol.
+pub fn endpoint(protocol: Protocol, end: End, parts: Parts) -> Endpoint
+    ensures { result ≡ endpoint_of protocol end parts.entry.header.now parts.entry.body.now }
 {
+    let Parts { header, body, .. } = parts;
     Endpoint {
         address: long_at(header, address_at(end)),
         port: word_at(body, port_at(protocol, end)),
     }
 }
 
-fn facts(protocol: Protocol, header: &[u8], body: &[u8]) -> Facts
-    requires { (length header.now ≡ 20) × (8 ≤ length body.now) }
-    ensures { result ≡ facts_of protocol header.now body.now }
+fn facts(protocol: Protocol, parts: Parts) -> Facts
+    ensures { result ≡ facts_of protocol parts.entry.header.now parts.entry.body.now }
 {
     Facts {
         protocol,
-        source: endpoint(protocol, End::Source, header, body),
-        destination: endpoint(protocol, End::Destination, header, body),
-        ttl: header[TTL],
+        source: endpoint(protocol, End::Source, parts),
+        destination: endpoint(protocol, End::Destination, parts),
+        ttl: parts.header[TTL],
     }
 }
 
-fn heading(header: &[u8]) -> Heading
-    requires { length header.now ≡ 20 }
+fn heading(header: &[u8; HEADER]) -> Heading
     ensures { result ≡ heading_of header.now }
 {
     Heading {
@@ -138,24 +121,13 @@ fn heading(header: &[u8]) -> Heading
     }
 }
 
-fn named(payload: Payload, header: &[u8], body: &[u8]) -> Result<Reading, Refusal>
-    requires { (length header.now ≡ 20) × (least_body payload ≤ length body.now) }
-    ensures { result ≡ named_of payload header.now body.now }
+// Kinds and codes are matched as they stand on the wire, with a refusal for all the rest.
+fn named_message(parts: Parts) -> Parsed
+    ensures { result ≡ message_of parts.entry.header.now parts.entry.body.now }
 {
-    match payload {
-        Payload::Datagram => Ok(Reading::Packet(facts(Protocol::Udp, header, body))),
-        Payload::Segment => Ok(Reading::Packet(facts(Protocol::Tcp, header, body))),
-        Payload::Message => named_message(header, body),
-        Payload::Other => Err(Refusal::UnknownProtocol),
-    }
-}
-
-fn named_message(header: &[u8], body: &[u8]) -> Result<Reading, Refusal>
-    requires { (length header.now ≡ 20) × (8 ≤ length body.now) }
-    ensures { result ≡ message_of header.now body.now }
-{
+    let Parts { header, body, .. } = parts;
     match (body[ICMP_KIND], body[ICMP_CODE]) {
-        (8 | 0, 0) => Ok(Reading::Packet(facts(Protocol::Echo, header, body))),
+        (8 | 0, 0) => Ok(Reading::Packet(facts(Protocol::Echo, parts))),
         (3 | 4 | 11 | 12, _) => Ok(Reading::Error(heading(header))),
         _ => Err(Refusal::UnknownProtocol),
     }

@@ -1,34 +1,22 @@
 -- What a record at the front takes, and a whole input record by record.
-use Rattle.std.proofs.Common.{◌≡◌, ℕ, zero, suc, ◌+◌, ◌-◌, ◌<◌, ◌≤◌, Bool, true, false, cond, eqb, leb, ◌⊎◌, List, [], ◌∷◌, ◌++◌, length, get_or, take, drop, sym, refl, ap, ◌∙◌, subst, inl, inr, ⊎_elim, append_assoc, le_refl, arith, length-drop, take-append-drop, length-take-le, get_or-drop, take-add}
+use Rattle.std.proofs.Common.{◌≡◌, ℕ, zero, suc, ◌+◌, ◌<◌, ◌≤◌, Bool, true, false, cond, eqb, leb, ◌⊎◌, List, [], ◌∷◌, ◌++◌, length, get_or, take, drop, sym, refl, ap, ◌∙◌, subst, inl, inr, ⊎_elim, append_assoc, arith, length-drop, take-append-drop, length-take-le, get_or-drop, take-add}
 use Rattle.std.specs.List.{flat_map}
 use Rattle.std.proofs.lemmas.List.{nil_from_length}
-use Rattle.std.proofs.lemmas.Slice.{between_to_end}
 use Rattle.std.proofs.lemmas.Bool.{and_parts, eqb-true, eqb-false, leb-true}
+use Rattle.std.proofs.lemmas.Grind.{common_steps}
 use Rattle.blocks.specs.Bytes.{AllBytes, bytes_of}
 use Rattle.blocks.proofs.BigEndian.{bytes_of_number}
 use Rattle.records.specs.Records.{Item, Packet, Tick, Front, End, Fault, Found, front, is_whole_packet, packet_length, side_of}
 use Rattle.records.specs.Inputs.{Input, input_after, input_by, item_bytes, side_byte, ReadToTheEnd}
 
--- the slice from a place on is the rest of the input
-pub rest : (bs : List ℕ) (at : ℕ) {f : Front} → f ≡ front (take (length bs - at) (drop at bs)) → f ≡ front (drop at bs)
-rest bs at h = h ∙ ap front (between_to_end bs at (length bs) (le_refl (length bs)))
-
 -- how a record was found
 ways : (a b w : Bool) (p : Item) (m : ℕ) (item : Item) (n : ℕ) → cond a End (cond b (Found Tick 1) (cond w (Found p m) Fault)) ≡ Found item n →
     (a ≡ false) × (((b ≡ true) × (Tick ≡ item) × (◌≡◌ {A = ℕ} 1 n)) ⊎ ((w ≡ true) × (p ≡ item) × (m ≡ n)))
-ways true b w p m item n h = let z : ◌≡◌ {A = ℕ} 0 1 = cc in absurd (omega arith)
-ways false true w p m item n h = (refl, inl (refl, cc, cc))
-ways false false true p m item n h = (refl, inr (refl, cc, cc))
-ways false false false p m item n h = let z : ◌≡◌ {A = ℕ} 0 1 = cc in absurd (omega arith)
+ways a b w p m item n h = grind (arith, common_steps)
 
 tick_bytes : (bs : List ℕ) → (length bs ≡ 0 → ⊥) → get_or bs 0 0 ≡ 2 → item_bytes Tick ≡ take 1 bs
 tick_bytes [] some two = absurd (some refl)
-tick_bytes (x ∷ xs) some two = ap (λ y. y ∷ []) (sym two)
-
-side_byte_lem : (b : ℕ) → b ≤ 1 → side_byte (side_of b) ≡ b
-side_byte_lem zero h = refl
-side_byte_lem (suc zero) h = refl
-side_byte_lem (suc (suc b)) h = absurd (omega arith)
+tick_bytes (x ∷ xs) some two = grind (arith, common_steps)
 
 -- four bytes at least, taken apart
 four : (bs : List ℕ) → 4 ≤ length bs → take 4 bs ≡ get_or bs 0 0 ∷ get_or bs 1 0 ∷ take 2 (drop 2 bs)
@@ -48,52 +36,37 @@ packet_bytes bs small h =
     let room = leb-true (4 + n) (length bs) d.1 in
     let long : length body ≡ n = length-take-le n (drop 4 bs) (omega (arith, length-drop 4 bs)) in
     let kind = sym (eqb-true (get_or bs 0 0) 1 b.0) in
-    let side = side_byte_lem (get_or bs 1 0) (leb-true (get_or bs 1 0) 1 b.1) in
+    let side : side_byte (side_of (get_or bs 1 0)) ≡ get_or bs 1 0 = grind (arith, common_steps) in
     let counted : bytes_of 2 (length body) ≡ take 2 (drop 2 bs) = ap (bytes_of 2) long ∙ bytes_of_number bs 2 2 small (omega arith) in
     (λ i. kind i ∷ side i ∷ (counted i ++ body))
     ∙ ap (λ front. front ++ body) (sym (four bs (omega arith)))
     ∙ sym (take-add 4 n bs)
 
--- a record takes some bytes
-pub found_some : (bs : List ℕ) {item : Item} {n : ℕ} → front bs ≡ Found item n → 0 < n
-found_some bs {item} {n} h =
-    ⊎_elim (λ t. omega (arith, t.2)) (λ t. omega (arith, t.2)) (ways (eqb (length bs) 0) (eqb (get_or bs 0 0) 2) (is_whole_packet bs) _ _ item n h).1
-
 -- a record's bytes are those that it takes
-pub record Taken (bs : List ℕ) (item : Item) (n : ℕ) : Type 0 where
+record Taken (bs : List ℕ) (item : Item) (n : ℕ) : Type 0 where
   pub bytes : item_bytes item ≡ take n bs
   pub some : 0 < n
   pub within : n ≤ length bs
 
-pub takes : (bs : List ℕ) → AllBytes bs → (item : Item) (n : ℕ) → front bs ≡ Found item n → Taken bs item n
+takes : (bs : List ℕ) → AllBytes bs → (item : Item) (n : ℕ) → front bs ≡ Found item n → Taken bs item n
 takes bs small item n h =
     let w = ways (eqb (length bs) 0) (eqb (get_or bs 0 0) 2) (is_whole_packet bs) _ _ item n h in
-    let some = eqb-false (length bs) 0 w.0 in
-    ⊎_elim
-    (λ t. record {
-      bytes = ap item_bytes (sym t.1) ∙ tick_bytes bs some (eqb-true (get_or bs 0 0) 2 t.0) ∙ ap (λ k. take k bs) t.2;
-      some = found_some bs h;
-      within = omega (arith, t.2, some);
-    })
-    (λ t. record {
-      bytes = ap item_bytes (sym t.1) ∙ packet_bytes bs small t.0 ∙ ap (λ k. take k bs) t.2;
-      some = found_some bs h;
-      within = omega (arith, t.2, leb-true _ _ (and_parts _ (leb (4 + packet_length bs) (length bs)) t.0).1);
-    })
-    w.1
+    record {
+      bytes =
+          ⊎_elim
+          (λ t. ap item_bytes (sym t.1) ∙ tick_bytes bs (eqb-false (length bs) 0 w.0) (eqb-true (get_or bs 0 0) 2 t.0) ∙ ap (λ k. take k bs) t.2)
+          (λ t. ap item_bytes (sym t.1) ∙ packet_bytes bs small t.0 ∙ ap (λ k. take k bs) t.2)
+          w.1;
+      some = grind (arith, common_steps);
+      within = grind (arith, common_steps);
+    }
 
 -- nothing is left only where nothing is
-ended : (a b w : Bool) (p : Item) (m : ℕ) → cond a End (cond b (Found Tick 1) (cond w (Found p m) Fault)) ≡ End → a ≡ true
-ended true b w p m h = refl
-ended false true w p m h = let z : ◌≡◌ {A = ℕ} 0 1 = cc in absurd (omega arith)
-ended false false true p m h = let z : ◌≡◌ {A = ℕ} 0 1 = cc in absurd (omega arith)
-ended false false false p m h = let z : ◌≡◌ {A = ℕ} 0 1 = cc in absurd (omega arith)
-
 end_nil : (bs : List ℕ) → front bs ≡ End → bs ≡ []
-end_nil bs h = nil_from_length bs (eqb-true (length bs) 0 (ended (eqb (length bs) 0) (eqb (get_or bs 0 0) 2) (is_whole_packet bs) _ _ h))
+end_nil bs h = grind (arith, common_steps)
 
 -- the items' bytes are those that were read, to the end or to a fault
-pub record Reads (bs : List ℕ) (i : Input) : Type 0 where
+record Reads (bs : List ℕ) (i : Input) : Type 0 where
   pub whole : flat_map item_bytes i.items ++ i.rest ≡ bs
   pub stops : (i.rest ≡ []) ⊎ (front i.rest ≡ Fault)
 

@@ -4,18 +4,21 @@ use Rattle.blocks.specs.declared.refusal.Refusal.{Refusal}
 use Rattle.blocks.specs.declared.refusal.Refusal.TheVariants.{Malformed}
 use Rattle.records.specs.declared.record.Record.{Record}
 use Rattle.records.specs.declared.record.Record.TheVariants as variant
-use Rattle.records.specs.declared.reader.Front as the_front
-use Rattle.records.specs.declared.reader.Front.TheVariants as front
 use Rattle.records.specs.Records.{Item, Packet, Tick, Front, End, Fault, Found}
 
 abbrev pub item_of : Record → Item
 item_of (variant.Packet side bytes) = Packet side bytes.now
 item_of variant.Tick = Tick
 
-abbrev pub front_of : the_front.Front → Front
-front_of front.End = End
-front_of front.Fault = Fault
-front_of (front.Found r n) = Found (item_of r) n
+-- what was found at the front of some bytes: a packet, and any record
+abbrev pub packet_of : Option (Record × ℕ) → Front
+packet_of (Some found) = Found (item_of found.0) found.1
+packet_of None = Fault
+
+abbrev pub front_of : Result (Option (Record × ℕ)) Refusal → Front
+front_of (Ok None) = End
+front_of (Err e) = Fault
+front_of (Ok (Some found)) = Found (item_of found.0) found.1
 
 -- what the caller of a reader is told
 abbrev pub told : Front → Result (Option Item) Refusal
@@ -45,10 +48,10 @@ abbrev pub ShortRecord : Record → Type 0
 ShortRecord (variant.Packet side bytes) = length bytes.now ≤ 65535
 ShortRecord variant.Tick = Unit {0}
 
-abbrev pub ShortFront : the_front.Front → Type 0
-ShortFront front.End = Unit {0}
-ShortFront front.Fault = Unit {0}
-ShortFront (front.Found r n) = ShortRecord r
+abbrev pub ShortFront : Result (Option (Record × ℕ)) Refusal → Type 0
+ShortFront (Ok None) = Unit {0}
+ShortFront (Ok (Some found)) = ShortRecord found.0
+ShortFront (Err e) = Unit {0}
 
 abbrev pub Short : Result (Option Record) Refusal → Type 0
 Short (Ok None) = Unit {0}

@@ -1,63 +1,40 @@
 // A reader of the input's records, to its end or its first fault.
-ghost use Rattle.std.specs.Prelude.{◌≡◌, ◌+◌, ◌≤◌, length, drop};
-ghost use Rattle.records.specs.Readers.{Advances, Short, ShortFront, cause_in, front_of, items_of, told};
+ghost use Rattle.std.specs.Prelude.{◌≡◌, ◌+◌, ◌≤◌, length, drop, IfErr, IfSome};
+ghost use Rattle.records.specs.Readers.{Advances, Short, ShortFront, ShortRecord, cause_in, front_of, items_of, packet_of, told};
 ghost use Rattle.records.specs.Records.{front, front_packet, taken};
 
 use crate::record::{Record, Side};
 use blocks::bytes::u16_at;
 use blocks::refusal::Refusal;
 
-// What stands at the front of some bytes: nothing any more, a damaged record, or a record and how many bytes it takes.
-#[derive(Clone, Copy)]
-enum Front<'a> {
-    End,
-    Fault,
-    Found(Record<'a>, usize),
-}
-
-fn packet<'a>(rest: &'a [u8]) -> Front<'a>
-    ensures is { front_of result ≡ front_packet rest.now }
-    ensures short { ShortFront result }
+// The packet at the front and how many bytes it takes, unless it is damaged.
+fn packet<'a>(rest: &'a [u8]) -> Option<(Record<'a>, usize)>
+    ensures is { packet_of result ≡ front_packet rest.now }
+    ensures short { IfSome result (λ found. ShortRecord found.0) }
 {
     let [1, side, ..] = rest else {
-        return Front::Fault;
+        return None;
     };
-    let side = match side {
-        0 => Side::Inside,
-        1 => Side::Outside,
-        _ => return Front::Fault,
-    };
-    let Some(length) = u16_at(rest, 2) else {
-        return Front::Fault;
-    };
-    let length = usize::from(length);
-    if length > rest.len() - 4 {
-        return Front::Fault;
-    }
-    Front::Found(
-        Record::Packet {
-            side,
-            bytes: &rest[4..4 + length],
-        },
-        4 + length,
-    )
+    let side = Side::try_from(*side).ok()?;
+    let length = usize::from(u16_at(rest, 2)?);
+    let bytes = rest.get(4..4 + length)?;
+    Some((Record::Packet { side, bytes }, 4 + length))
 }
 
-fn record_in<'a>(rest: &'a [u8]) -> Front<'a>
+// The record at the front and how many bytes it takes, or nothing at the end.
+fn record_in<'a>(rest: &'a [u8]) -> Result<Option<(Record<'a>, usize)>, Refusal>
     ensures is { front_of result ≡ front rest.now }
+    ensures cause { IfErr result (λ cause. cause ≡ Refusal.Malformed) }
     ensures short { ShortFront result }
 {
-    let [kind, ..] = rest else {
-        return Front::End;
-    };
-    if *kind == 2 {
-        Front::Found(Record::Tick, 1)
-    } else {
-        packet(rest)
+    match rest {
+        [] => Ok(None),
+        [2, ..] => Ok(Some((Record::Tick, 1))),
+        _ => Ok(Some(packet(rest).ok_or(Refusal::Malformed)?)),
     }
 }
 
-#[derive(Drop)]
+#[derive(Debug, Drop)]
 pub struct Reader<'a> {
     input: &'a [u8],
     at: usize,
@@ -83,10 +60,7 @@ impl<'a> Reader<'a> {
     pub fn fault(&self) -> Option<Refusal>
         ensures { result ≡ cause_in (front (drop self.now.at self.now.input.now)) }
     {
-        match record_in(&self.input[self.at..]) {
-            Front::Fault => Some(Refusal::Malformed),
-            Front::End | Front::Found(_, _) => None,
-        }
+        record_in(&self.input[self.at..]).err()
     }
 
     // The next record, nothing at the end, or `Malformed` where the record is damaged; then the reader stays before it.
@@ -97,10 +71,9 @@ impl<'a> Reader<'a> {
         ensures advances { Advances result self.old.at self.new.at }
         ensures short { Short result }
     {
-        let (record, taken) = match record_in(&self.input[self.at..]) {
-            Front::End => return Ok(None),
-            Front::Fault => return Err(Refusal::Malformed),
-            Front::Found(record, taken) => (record, taken),
+        // the project's form for a reader's answer: taken apart by `let .. else`
+        let Some((record, taken)) = record_in(&self.input[self.at..])? else {
+            return Ok(None);
         };
         self.at += taken;
         Ok(Some(record))

@@ -9,19 +9,20 @@ pub mod laws;
 pub mod words;
 
 // The plain sum of the words of `bytes`, which are few enough that it fits.
+#[tactic(auto, unfolding(crate::specs::Words::word_sum))]
 pub fn word_sum(bytes: &[u8]) -> u32
     requires { length bytes.now ≤ 65535 }
     ensures is { result ≡ word_sum bytes.now }
     ensures small { result < 2 ^ 31 }
 {
     let mut sum: u32 = 0;
-    let mut at: usize = 0;
-    while at + 1 < bytes.len() {
-        sum += u32::from(u16::from_be_bytes([bytes[at], bytes[at + 1]]));
-        at += 2;
+    let mut rest = bytes;
+    while let [high, low, behind @ ..] = rest {
+        sum += u32::from(u16::from_be_bytes([*high, *low]));
+        rest = behind;
     }
-    if at < bytes.len() {
-        sum += u32::from(bytes[at]) * 256;
+    if let [high] = rest {
+        sum += u32::from(*high) * 256;
     }
     sum
 }

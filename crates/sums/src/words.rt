@@ -1,4 +1,6 @@
 // Numbers in a slice of bytes, high byte first.
+// A function for each width: a trait over the widths would hold the same bodies, one in an `impl` for each, and one function
+// over the count of bytes would save no more than the places that each of these names.
 ghost use Rattle.std.specs.Prelude.{◌≡◌, ◌+◌, ◌<◌, length};
 ghost use Rattle.sums.specs.Words.{long_at, put_long, put_word, word_at};
 

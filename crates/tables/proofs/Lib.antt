@@ -4,6 +4,6 @@ pub mod Doing
 pub mod Fresh
 pub mod Looking
 pub mod Own
+pub mod Places
 pub mod Remembering
 pub mod Running
-pub mod Slots

@@ -1,49 +1,44 @@
 -- The blocks of one subscriber in the table.
-use Rattle.std.proofs.Common.{◌≡◌, ℕ, zero, suc, ◌+◌, ◌-◌, ◌/◌, ◌<◌, ◌≤◌, Bool, true, false, cond, ltb, ◌⊎◌, List, [], ◌∷◌, ◌++◌, map, length, get_or, take, set, is_some, Some, None, Option, sym, refl, ap, ◌∙◌, subst, inl, inr, ⊎_elim, arith}
+use Rattle.std.proofs.Common.{◌≡◌, ℕ, zero, suc, ◌-◌, ◌<◌, ◌≤◌, Bool, true, false, cond, ltb, ◌⊎◌, List, [], ◌∷◌, ◌++◌, map, length, get_or, set, is_some, Some, None, Option, sym, refl, ap, ◌∙◌, subst, inl, inr, ⊎_elim, arith}
 use Rattle.std.specs.List.{filter}
 use Rattle.std.proofs.lemmas.List.{get_or_append_left, get_or-append_right, get_or-map, get_or-set_other, get_or-set_same, length-map, map-set}
-use Rattle.std.proofs.lemmas.Bool.{cases_eq, cases_lt, ltb-true}
-use Rattle.std.proofs.lemmas.Nat.{div_below, mul-le}
-use Rattle.blocks.specs.Config.{blocks_of}
+use Rattle.std.proofs.lemmas.Bool.{cases_eq, cases_lt}
+use Rattle.std.proofs.lemmas.Nat.{mul-le}
+use Rattle.blocks.specs.Config.{blocks_of, lowest_port}
 use Rattle.blocks.specs.Settings.{config}
 use Rattle.blocks.specs.declared.settings.Settings.{Settings}
 use Rattle.blocks.proofs.Limits.{known}
 use Rattle.mappings.specs.Searches.{first, range}
-use Rattle.mappings.specs.States.{further_of}
+use Rattle.mappings.specs.States.{further_of, ports_of}
 use Rattle.mappings.specs.Steps.{is_unheld, next_block}
 use Rattle.mappings.proofs.Firsts.{first_some, has_range}
+use Rattle.mappings.proofs.Ports.{good, port_block}
 use Rattle.mappings.proofs.Options.{none_not_some}
-use Rattle.tables.specs.declared.further.Further.{Further}
+use Rattle.arrayvec.specs.ArrayVec.{ArrayVec}
 use Rattle.tables.specs.declared.table.Table.{Table}
 use Rattle.tables.specs.Given.{is_given}
 use Rattle.tables.specs.Models.{config_of, model}
 use Rattle.tables.specs.Rows.{blocks_in}
-use Rattle.tables.proofs.Slots.{get_d_through}
+use Rattle.tables.proofs.Places.{get_d_through}
 
 -- what was read of the table's rows is the subscriber's further blocks
-pub row_read : (xs : List Further) (n : ℕ) (f : Further) → n < length xs → f ≡ get_or xs n f → get_or (map blocks_in xs) n [] ≡ blocks_in f
-row_read xs n f within e = get_or-map blocks_in xs n f [] within ∙ ap blocks_in (sym e)
+pub row_read : (xs : List (ArrayVec ℕ)) (n i : ℕ) (f : ArrayVec ℕ) → i ≡ n → n < length xs → f ≡ get_or xs i f → get_or (map blocks_in xs) n [] ≡ blocks_in f
+row_read xs n i f same within e = get_or-map blocks_in xs n f [] within ∙ ap blocks_in (ap (λ k. get_or xs k f) (sym same) ∙ sym e)
 
-pub own_within : (t : Table) (n : ℕ) → n < (config_of t).subscribers → (k : ℕ) → get_or (n ∷ further_of (model t) n) k 0 < blocks_of (config_of t)
-own_within t n h zero = omega (arith, (known t.settings).fits)
-own_within t n h (suc k) = t.within n k
-
-take_own : {A : Type 0} (k : ℕ) (xs : List A) → take (length (take k xs)) xs ≡ take k xs
-take_own zero xs = refl
-take_own (suc k) [] = refl
-take_own (suc k) (x ∷ xs) = ap (λ ys. x ∷ ys) (take_own k xs)
-
--- the part of the array that is looked through
-pub own_part : (n k : ℕ) (own : List ℕ) (f : Further) → own ≡ n ∷ f.given → k ≡ length (blocks_in f) → take ((1 + k) - 0) own ≡ n ∷ blocks_in f
-own_part n k own f e long =
-    let count : (1 + k) - 0 ≡ suc (length (blocks_in f)) = omega arith in
-    ap (λ xs. take ((1 + k) - 0) xs) e ∙ ap (λ m. take m (n ∷ f.given)) count ∙ ap (λ xs. n ∷ xs) (take_own f.count f.given)
+-- a port that was found among a subscriber's is an external one
+pub port_high : (t : Table) (n : ℕ) (f : ℕ → Bool) (p : ℕ) → first f (ports_of (config_of t) (model t) n) ≡ Some p → lowest_port ≤ p
+port_high t n f p e = (port_block (config_of t) (good (config_of t) t.settings.limits) (model t) n p (first_some f (ports_of (config_of t) (model t) n) p e).0).0
 
 pub few_blocks : (s : Settings) → blocks_of (config s) ≤ 4032
 few_blocks s = omega (arith, mul-le (blocks_of (config s)) 16 (blocks_of (config s)) s.size (omega arith) (known s).smallest, (known s).whole)
 
+-- a subscriber's first block is one
+pub one_block : (t : Table) (n : ℕ) → n < (config_of t).subscribers → (k : ℕ) → get_or (n ∷ []) k 0 < blocks_of (config_of t)
+one_block t n low zero = let l = known t.settings in omega arith
+one_block t n low (suc k) = let l = known t.settings in omega arith
+
 -- a row gets one more block, and every block is still one
-pub rows_given : (xs : List Further) (n b m : ℕ) (row : Further) → n < length xs → b < m → blocks_in row ≡ get_or (map blocks_in xs) n [] ++ b ∷ [] →
+pub rows_given : (xs : List (ArrayVec ℕ)) (n b m : ℕ) (row : ArrayVec ℕ) → n < length xs → b < m → blocks_in row ≡ get_or (map blocks_in xs) n [] ++ b ∷ [] →
     ((i k : ℕ) → get_or (get_or (map blocks_in xs) i []) k 0 < m) → (i k : ℕ) → get_or (get_or (map blocks_in (set xs n row)) i []) k 0 < m
 rows_given xs n b m row within small e all i k =
     subst (λ ys. get_or (get_or ys i []) k 0 < m) (sym (map-set blocks_in xs n row)) (⊎_elim here there (cases_eq i n))
@@ -76,20 +71,18 @@ agree_set ws vs hs b v within agree there others i =
     (λ (ne : i ≡ b → ⊥). others i ne ∙ agree i ∙ ap is_some (sym (get_or-set_other hs b i v None ne)))
     (cases_eq i b)
 
--- the block has a bit among those of 63 numbers
-pub bit_within : (s : Settings) (b : ℕ) → b < blocks_of (config s) → b / 64 < 63
-bit_within s b h = div_below b 64 63 (omega arith) (omega (arith, few_blocks s))
+-- the block that is given is one
+pub unheld_within : (t : Table) (b : ℕ) → first (is_unheld (model t).holders) (range (config_of t).subscribers (blocks_of (config_of t) - (config_of t).subscribers)) ≡ Some b → b < blocks_of (config_of t)
+unheld_within t b e =
+    let among = has_range (config_of t).subscribers (blocks_of (config_of t) - (config_of t).subscribers) b (first_some (is_unheld (model t).holders) _ b e).0 in
+    omega (arith, among.1, (known t.settings).fits)
 
--- the block that is given is one, and the subscriber may have it
-pub next_known : (t : Table) (n b : ℕ) → next_block (config_of t) (model t) n ≡ Some b → (b < blocks_of (config_of t)) × (length (further_of (model t) n) < 4)
-next_known t n b e = go (ltb (length (further_of (model t) n)) (config_of t).further) refl e
+pub next_within : (t : Table) (n b : ℕ) → next_block (config_of t) (model t) n ≡ Some b → b < blocks_of (config_of t)
+next_within t n b e = go (ltb (length (further_of (model t) n)) (config_of t).further) e
   where
-    go : (q : Bool) → ltb (length (further_of (model t) n)) (config_of t).further ≡ q → cond q (first (is_unheld (model t).holders) (range (config_of t).subscribers (blocks_of (config_of t) - (config_of t).subscribers))) None ≡ Some b →
-        (b < blocks_of (config_of t)) × (length (further_of (model t) n) < 4)
-    go true h k =
-        let among = has_range (config_of t).subscribers (blocks_of (config_of t) - (config_of t).subscribers) b (first_some (is_unheld (model t).holders) _ b k).0 in
-        (omega (arith, among.1, (known t.settings).fits), omega (arith, ltb-true (length (further_of (model t) n)) (config_of t).further h, (known t.settings).more))
-    go false h k = none_not_some k
+    go : (q : Bool) → cond q (first (is_unheld (model t).holders) (range (config_of t).subscribers (blocks_of (config_of t) - (config_of t).subscribers))) None ≡ Some b → b < blocks_of (config_of t)
+    go true k = unheld_within t b k
+    go false k = none_not_some k
 
 -- blocks that are kept are still blocks
 kept_within : (p : ℕ → Bool) (m : ℕ) → 0 < m → (xs : List ℕ) → ((k : ℕ) → get_or xs k 0 < m) → (k : ℕ) → get_or (filter p xs) k 0 < m

@@ -1,7 +1,9 @@
 -- Addresses that a mapping remembers: looking for one, and putting one first.
-use Rattle.std.proofs.Common.{◌≡◌, ℕ, zero, suc, ◌+◌, ◌-◌, ◌<◌, ◌≤◌, Bool, true, false, cond, ◌||◌, eqb, List, [], ◌∷◌, ◌++◌, length, get_or, take, drop, set, sym, refl, ap, ◌∙◌, add-one, arith}
-use Rattle.std.proofs.lemmas.List.{append_assoc, take_all, take-take, take_more_set, length-take, length-drop, drop_more, drop-set-lt, set_split}
-use Rattle.std.proofs.lemmas.Bool.{cond-true, cond-false, eq-eqb, ne_eqb}
+use Rattle.std.proofs.Common.{◌≡◌, ℕ, zero, suc, ◌+◌, ◌<◌, ◌≤◌, Bool, true, false, cond, not, ◌||◌, eqb, ltb, Some, None, ⊎_elim, List, [], ◌∷◌, ◌++◌, length, get_or, take, drop, set, sym, refl, ap, subst, ◌∙◌, add-one, arith}
+use Rattle.std.specs.List.{list_any, position, position_or_len, remove}
+use Rattle.std.specs.Option.{unwrap_or}
+use Rattle.std.proofs.lemmas.List.{take_all, take-take, length-take, drop_more, drop-take}
+use Rattle.std.proofs.lemmas.Bool.{cond-true, cond-false, lt-ltb, le-ltb, cases_lt}
 use Rattle.mappings.specs.Mappings.{is_in, without}
 use Rattle.mappings.proofs.Options.{true_not_false}
 
@@ -9,21 +11,10 @@ pub in_none : (a : ℕ) → is_in a [] ≡ false
 unfolding is_in
 in_none a = refl
 
-pub in_here : (a x : ℕ) (xs : List ℕ) → x ≡ a → is_in a (x ∷ xs) ≡ true
+pub in_any : (a : ℕ) (xs : List ℕ) → list_any (λ x. eqb x a) xs ≡ is_in a xs
 unfolding is_in
-in_here a x xs e = ap (λ b. b || is_in a xs) (eq-eqb x a e)
-
-pub in_later : (a x : ℕ) (xs : List ℕ) → (x ≡ a → ⊥) → is_in a (x ∷ xs) ≡ is_in a xs
-unfolding is_in
-in_later a x xs ne = ap (λ b. b || is_in a xs) (ne_eqb x a ne)
-
-pub without_here : (a x : ℕ) (xs : List ℕ) → x ≡ a → without a (x ∷ xs) ≡ xs
-unfolding without
-without_here a x xs e = cond-true (eqb x a) xs (x ∷ without a xs) (eq-eqb x a e)
-
-pub without_later : (a x : ℕ) (xs : List ℕ) → (x ≡ a → ⊥) → without a (x ∷ xs) ≡ x ∷ without a xs
-unfolding without
-without_later a x xs ne = cond-false (eqb x a) xs (x ∷ without a xs) (ne_eqb x a ne)
+in_any a [] = refl
+in_any a (x ∷ xs) = ap (λ b. eqb x a || b) (in_any a xs)
 
 -- where the address is among the first n, it is taken out of them
 pub taken_out : (a m : ℕ) (ys : List ℕ) → is_in a (take (suc m) ys) ≡ true → take m (without a ys) ≡ without a (take (suc m) ys)
@@ -69,39 +60,42 @@ noted_full a n ys long full =
     take_all n (take 16 (a ∷ without a ys)) (omega (arith, length-take 16 (a ∷ without a ys)))
     ∙ ap (λ zs. take 16 (a ∷ without a zs)) (sym (take_all n ys (omega arith)))
 
--- one turn of putting the address a first: i places are done, k is carried, and R will be there in the end
-module _ (a : ℕ) (xs ys : List ℕ) (i k : ℕ) (R : List ℕ) (long : length ys ≡ length xs) (within : i < length xs)
-    (front : take i ys ++ take (length xs - i) (k ∷ without a (drop i xs)) ≡ R) (rest : drop i ys ≡ drop i xs) where
-  abbrev left : ℕ
-  left = length xs - (i + 1)
+-- the place of an address, or else the last one, is one; and with one more element in front it is one later
+pub place_within : (p : ℕ → Bool) (xs : List ℕ) (n : ℕ) → length xs ≡ suc n → unwrap_or (position p xs) n < length xs
+place_within p xs n e =
+    ⊎_elim
+    (λ (h : position_or_len p xs < length xs). subst (λ o. unwrap_or o n < length xs) (sym (cond-true _ (Some (position_or_len p xs)) None (lt-ltb (position_or_len p xs) (length xs) h))) h)
+    (λ (h : length xs ≤ position_or_len p xs). subst (λ o. unwrap_or o n < length xs) (sym (cond-false _ (Some (position_or_len p xs)) None (le-ltb (position_or_len p xs) (length xs) h))) (omega arith))
+    (cases_lt (position_or_len p xs) (length xs))
 
-  count : length xs - i ≡ suc left
-  count = omega arith
+place_later : (m len n : ℕ) → unwrap_or (cond (ltb (1 + m) (suc len)) (Some (1 + m)) None) (suc n) ≡ suc (unwrap_or (cond (ltb m len) (Some m) None) n)
+place_later m len n =
+    ⊎_elim
+    (λ (h : m < len). let one : 1 + m ≡ suc m = omega arith in
+    ap (λ o. unwrap_or o (suc n)) (cond-true _ (Some (1 + m)) None (lt-ltb (1 + m) (suc len) (omega arith))) ∙ one ∙ sym (ap (λ o. suc (unwrap_or o n)) (cond-true _ (Some m) None (lt-ltb m len h))))
+    (λ (h : len ≤ m). ap (λ o. unwrap_or o (suc n)) (cond-false _ (Some (1 + m)) None (le-ltb (1 + m) (suc len) (omega arith))) ∙ sym (ap (λ o. suc (unwrap_or o n)) (cond-false _ (Some m) None (le-ltb m len h))))
+    (cases_lt m len)
 
-  split : get_or ys i 0 ∷ drop (i + 1) ys ≡ get_or xs i 0 ∷ drop (i + 1) xs
-  split = sym (drop_more ys i 0 (omega arith)) ∙ rest ∙ drop_more xs i 0 within
+-- without what stands at the place of an address, or else at the last, the list is that without the address, as far as there is room
+pub without_at : (a : ℕ) (xs : List ℕ) (n : ℕ) → length xs ≡ suc n → remove xs (unwrap_or (position (λ x. eqb x a) xs) n) ≡ take n (without a xs)
+unfolding without
+without_at a [] n e = absurd (omega arith)
+without_at a (x ∷ ys) n e = go (eqb x a) n (without_at a ys) (omega arith)
+  where
+    m : ℕ
+    m = position_or_len (λ y. eqb y a) ys
 
-  behind : drop (i + 1) ys ≡ drop (i + 1) xs
-  behind = let e = split in cc
+    go : (b : Bool) (n : ℕ) → ((k : ℕ) → length ys ≡ suc k → remove ys (unwrap_or (position (λ x. eqb x a) ys) k) ≡ take k (without a ys)) → length ys ≡ n →
+        remove (x ∷ ys) (unwrap_or (cond (ltb (cond (not b) (1 + m) 0) (suc (length ys))) (Some (cond (not b) (1 + m) 0)) None) n) ≡ take n (cond b ys (x ∷ without a ys))
+    go true n rest h = ap (λ o. remove (x ∷ ys) (unwrap_or o n)) (cond-true _ (Some 0) None (lt-ltb 0 (suc (length ys)) (omega arith))) ∙ sym (take_all n ys (omega arith))
+    go false zero rest h =
+        ap (λ o. remove (x ∷ ys) (unwrap_or o 0)) (cond-false _ (Some (1 + m)) None (le-ltb (1 + m) (suc (length ys)) (omega arith))) ∙ sym (take_all 0 ys (omega arith))
+    go false (suc k) rest h = ap (remove (x ∷ ys)) (place_later m (length ys) k) ∙ ap (λ zs. x ∷ zs) (rest k h)
 
-  carried : take i ys ++ k ∷ take left (without a (get_or ys i 0 ∷ drop (i + 1) xs)) ≡ R
-  carried =
-      ap (λ zs. take i ys ++ k ∷ take left (without a zs)) (ap (λ zs. get_or ys i 0 ∷ zs) (sym behind) ∙ sym (drop_more ys i 0 (omega arith)) ∙ rest)
-      ∙ ap (λ n. take i ys ++ take n (k ∷ without a (drop i xs))) (sym count) ∙ front
-
-  pub carry_stops : get_or ys i 0 ≡ a → set ys i k ≡ R
-  carry_stops e =
-      set_split ys i k (omega arith)
-      ∙ ap (λ n. take i ys ++ k ∷ drop n ys) (sym (add-one i))
-      ∙ ap (λ zs. take i ys ++ k ∷ zs) (behind ∙ sym (take_all left (drop (i + 1) xs) (omega (arith, length-drop (i + 1) xs)))
-      ∙ ap (λ zs. take left zs) (sym (without_here a (get_or ys i 0) (drop (i + 1) xs) e)))
-      ∙ carried
-
-  pub carry_goes : (get_or ys i 0 ≡ a → ⊥) →
-      (take (i + 1) (set ys i k) ++ take left (get_or ys i 0 ∷ without a (drop (i + 1) xs)) ≡ R) × (drop (i + 1) (set ys i k) ≡ drop (i + 1) xs)
-  carry_goes ne = (
-    ap (λ zs. zs ++ take left (get_or ys i 0 ∷ without a (drop (i + 1) xs))) (take_more_set ys i k (omega arith))
-        ∙ append_assoc (take i ys) (k ∷ []) (take left (get_or ys i 0 ∷ without a (drop (i + 1) xs)))
-        ∙ ap (λ zs. take i ys ++ k ∷ take left zs) (sym (without_later a (get_or ys i 0) (drop (i + 1) xs) ne)) ∙ carried,
-    drop-set-lt (i + 1) ys i k (omega arith) ∙ behind,
-  )
+-- the first k + 1 turned by one, and the address written in front
+pub put_in_front : (a : ℕ) (xs turned : List ℕ) (k : ℕ) → k < length xs → turned ≡ drop k (take (k + 1) xs) ++ take k (take (k + 1) xs) → set (turned ++ drop (k + 1) xs) 0 a ≡ a ∷ remove xs k
+put_in_front a xs turned k within e =
+    ap (λ zs. set (zs ++ drop (k + 1) xs) 0 a) (e ∙ (λ i. last i ++ take-take k (k + 1) xs (omega arith) i)) ∙ ap (λ n. a ∷ take k xs ++ drop n xs) (add-one k)
+  where
+    last : drop k (take (k + 1) xs) ≡ get_or xs k 0 ∷ []
+    last = drop-take k 1 xs ∙ ap (take 1) (drop_more xs k 0 within)

@@ -1,9 +1,10 @@
 -- What the rows of the tables mean: a mapping, a slot, and a subscriber's further blocks.
-use Rattle.std.specs.Prelude.{ℕ, ◌-◌, cond, List, take, Some, None, Option, nat_le, slice_index_or}
+use Rattle.std.specs.Prelude.{ℕ, ◌-◌, cond, List, take, Some, None, Option, nat_le, slice_index_or, vec_items}
 use Rattle.blocks.specs.Config.{lowest_port}
 use Rattle.mappings.specs.Mappings as mappings
-use Rattle.tables.specs.declared.further.Further.{Further}
+use Rattle.arrayvec.specs.ArrayVec.{ArrayVec}
 use Rattle.tables.specs.declared.mapping.Mapping.{Mapping}
+use Rattle.tables.specs.declared.slots.Slots.{Slots}
 
 abbrev pub meaning : Mapping → mappings.Mapping
 meaning m = record { subscriber = m.subscriber; protocol = m.protocol; port = m.port; last = m.last; remembered = take m.count m.addresses }
@@ -16,5 +17,8 @@ slot (Some m) = Some (meaning m)
 abbrev pub slots_of : List (Option Mapping) → ℕ → Option mappings.Mapping
 slots_of xs p = cond (nat_le lowest_port p) (slot (slice_index_or xs (p - lowest_port) None)) None
 
-abbrev pub blocks_in : Further → List ℕ
-blocks_in f = take f.count f.given
+abbrev pub slots_in : Slots → ℕ → Option mappings.Mapping
+slots_in x = slots_of (vec_items x.of)
+
+abbrev pub blocks_in : ArrayVec ℕ → List ℕ
+blocks_in row = row.items

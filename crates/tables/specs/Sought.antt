@@ -1,15 +1,14 @@
--- What a slot is looked through for.
-use Rattle.std.specs.Prelude.{ℕ, Bool, not, is_some, Option}
-use Rattle.blocks.specs.Config.{Config}
-use Rattle.mappings.specs.Mappings.{Mapping, is_of}
-use Rattle.mappings.specs.Steps.{live_and}
-use Rattle.tables.specs.declared.searches.Sought.{Sought}
-use Rattle.tables.specs.declared.searches.Sought.TheVariants.{Free, Taken, Face}
+-- What a test says of a slot, and the first port whose slot passes it.
+use Rattle.std.specs.Prelude.{◌≡◌, ℕ, Bool, List, Option}
+use Rattle.mappings.specs.Mappings as mappings
+use Rattle.mappings.specs.Searches.{first}
+use Rattle.tables.specs.declared.mapping.Mapping.{Mapping}
+use Rattle.tables.specs.Rows.{slot}
 
-abbrev pub passes : Config → Sought → Option Mapping → Bool
-passes c Free v = not (is_some v)
-passes c Taken v = is_some v
-passes c (Face o t) v = is_some (live_and c t (is_of o) v)
+-- each answer that is given about a slot is what f says of the slot's meaning
+abbrev pub Tells : (Option Mapping → Bool → Type 0) → (Option mappings.Mapping → Bool) → Type 0
+Tells gives f = (v : Option Mapping) (b : Bool) → gives v b → b ≡ f (slot v)
 
-abbrev pub passes_at : Config → Sought → (ℕ → Option Mapping) → ℕ → Bool
-passes_at c x slots p = passes c x (slots p)
+-- r is the first of these ports whose slot passes, whatever meaning the test has
+pub record Finds (gives : Option Mapping → Bool → Type 0) (slots : ℕ → Option mappings.Mapping) (ports : List ℕ) (r : Option ℕ) : Type 0 where
+  pub is : (f : Option mappings.Mapping → Bool) → Tells gives f → r ≡ first (λ p. f (slots p)) ports

@@ -2,8 +2,7 @@
 #![tactic(auto)]
 
 mod bits;
-mod further;
 mod mapping;
 pub mod runs;
-mod searches;
+mod slots;
 pub mod table;

@@ -1,10 +1,11 @@
 -- Plain decimal numbers, and what `parse` makes of them.
-use Rattle.std.proofs.Common.{◌≡◌, ℕ, ◌^◌, ◌<◌, true, not, ◌||◌, eqb, ltb, List, length, get_or, Ok, Err, decimal, Result, sym, ap, ◌∙◌, subst, ⊎_elim, arith}
+use Rattle.std.proofs.Common.{◌≡◌, ℕ, ◌^◌, ◌<◌, ◌≤◌, true, List, length, get_or, Ok, Err, None, decimal, Result, sym, ap, ◌∙◌, subst, ⊎_elim, arith}
 use Rattle.std.specs.Str.Parse.{AllDigits, digits_value, ParsesUnsigned}
-use Rattle.std.specs.Result.{result_ok}
+use Rattle.std.specs.Result.{result_ok, OkIff}
 use Rattle.std.proofs.lemmas.Fmt.{decimal_digit, decimal_nonempty, decimal-digits_value, digits_decimal, first_decimal, digits_value-decimal}
 use Rattle.std.proofs.lemmas.Str.Parse.{IsNumeralModel, not_in_digits, numerals_by_value, parse_plain, tells_digits}
-use Rattle.std.proofs.lemmas.Bool.{and_from, and_parts, cases_eq, eq-eqb, eqb-false, eqb-true, lt-ltb, ltb-true, ne_eqb, not_from_false, not-true, or_cases, or_left, or_right}
+use Rattle.std.proofs.lemmas.Bool.{cases_eq}
+use Rattle.std.proofs.lemmas.Grind.{common_steps}
 use Rattle.text.specs.Reading.{ReadsAs, IsBelow, is_plain}
 
 own : IsNumeralModel (AllDigits 10) (digits_value 10)
@@ -17,19 +18,10 @@ pub record Plain (bs : List ℕ) : Type 0 where
   pub short : get_or bs 0 0 ≡ 48 → length bs ≡ 1
 
 pub plain_from : (bs : List ℕ) → is_plain bs ≡ true → Plain bs
-plain_from bs h =
-    let b = and_parts _ (not (eqb (get_or bs 0 0) 48) || eqb (length bs) 1) h in
-    let a = and_parts (ltb 0 (length bs)) (not (eqb (get_or bs 0 0) 43)) b.0 in
-    record {
-      some = ltb-true 0 (length bs) a.0;
-      unsigned = eqb-false (get_or bs 0 0) 43 (not-true _ a.1);
-      short = λ zero. ⊎_elim (λ no. absurd (eqb-false (get_or bs 0 0) 48 (not-true _ no) zero)) (λ one. eqb-true (length bs) 1 one) (or_cases _ _ b.1);
-    }
+plain_from bs h = grind (arith, common_steps)
 
 pub plain_to : (bs : List ℕ) → Plain bs → is_plain bs ≡ true
-plain_to bs p =
-    and_from _ _ (and_from _ _ (lt-ltb 0 (length bs) p.some) (not_from_false _ (ne_eqb (get_or bs 0 0) 43 p.unsigned)))
-    (⊎_elim (λ zero. or_right _ _ (eq-eqb (length bs) 1 (p.short zero))) (λ other. or_left _ _ (not_from_false _ (ne_eqb (get_or bs 0 0) 48 other))) (cases_eq (get_or bs 0 0) 48))
+plain_to bs p = grind (arith, common_steps)
 
 -- no digit is another byte
 pub no_other : (n c : ℕ) → n < 2 ^ 64 → (c < 48) → (i : ℕ) → i < length (decimal n) → get_or (decimal n) i 0 ≡ c → ⊥
@@ -52,3 +44,8 @@ reads_plain bs (Err e) h p =
     let digits = subst (AllDigits 10) (sym same) (digits_decimal own n small) in
     let worth = ap (digits_value 10) same ∙ digits_value-decimal own n small in
     parse_plain own 64 bs (Err e) h p.unsigned (digits, p.some, subst (λ k. k < 2 ^ 64) (sym worth) small)
+
+-- a number that a narrower type does not hold
+pub too_large : {E : Type 0} (r : Result ℕ E) (n limit : ℕ) → OkIff r (n < limit) n → None ≡ result_ok r → limit ≤ n
+too_large (Ok x) n limit h e = absurd (cc)
+too_large (Err d) n limit h e = let no : n < limit → ⊥ = h in omega arith

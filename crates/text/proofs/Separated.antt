@@ -1,7 +1,7 @@
 -- Texts with a separator: what stands before it, and what behind.
-use Rattle.std.proofs.Common.{◌≡◌, ℕ, zero, suc, ◌<◌, List, [], ◌∷◌, ◌++◌, length, get_or, drop, Some, None, sym, refl, ap, ◌∙◌, arith, Bor}
-use Rattle.std.proofs.lemmas.List.{drop_at}
+use Rattle.std.proofs.Common.{◌≡◌, ℕ, suc, ◌<◌, List, [], ◌∷◌, ◌++◌, length, get_or, Some, None, refl, ap, ◌∙◌, arith, Bor}
 use Rattle.std.proofs.lemmas.Str.Pattern.{IsSplitOnceResult, split_after, split_parts}
+use Rattle.std.proofs.lemmas.Grind.{common_steps}
 use Rattle.text.specs.Reading.{ReadsAs, ReadsBefore}
 
 -- the separator is nowhere in the text
@@ -21,15 +21,13 @@ module _ {A : Type 0} (show : A → List ℕ) (within : A → Type 0) (sep : ℕ
   read_before bs front rest x h is = (is.0, (split_parts sep bs (Some (front, rest)) h ascii).0 ∙ ap (λ f. f ++ (sep ∷ rest.now)) is.1)
 
 pub lacks_cons : (sep x : ℕ) (xs : List ℕ) → (x ≡ sep → ⊥) → Lacks sep xs → Lacks sep (x ∷ xs)
-lacks_cons sep x xs other h zero inside e = other e
-lacks_cons sep x xs other h (suc i) inside e = h i (omega arith) e
+lacks_cons sep x xs other h i inside e = grind (arith, common_steps)
 
 lacks_rest : (sep x : ℕ) (xs : List ℕ) → Lacks sep (x ∷ xs) → Lacks sep xs
 lacks_rest sep x xs h i inside = h (suc i) (omega arith)
 
 pub lacks_append : (sep : ℕ) (xs ys : List ℕ) → Lacks sep xs → Lacks sep ys → Lacks sep (xs ++ ys)
-lacks_append sep [] ys p q = q
-lacks_append sep (x ∷ xs) ys p q = lacks_cons sep x (xs ++ ys) (p 0 (omega arith)) (lacks_append sep xs ys (lacks_rest sep x xs p) q)
+lacks_append sep xs ys p q i inside e = grind (arith, common_steps)
 
 lacks_first : {X : Type 0} (sep x : ℕ) (xs : List ℕ) → Lacks sep (x ∷ xs) → x ≡ sep → X
 lacks_first sep x xs h e = absurd (h 0 (omega arith) e)
@@ -44,8 +42,3 @@ split_once_only sep (x ∷ f) (y ∷ g) xs ys p q e =
     let rest : f ++ (sep ∷ xs) ≡ g ++ (sep ∷ ys) = cc in
     let more = split_once_only sep f g xs ys (lacks_rest sep x f p) (lacks_rest sep y g q) rest in
     ((λ i. first i ∷ more.0 i), more.1)
-
--- a word in front is cut off, and what is left is what stood behind it
-pub behind_word : (word bs rest : List ℕ) (n : ℕ) → n ≡ length word → bs ≡ word ++ drop n bs → rest ≡ drop n bs → (bs ≡ word ++ rest) × ((xs : List ℕ) → bs ≡ word ++ xs → rest ≡ xs)
-behind_word word bs rest n long whole cut =
-    (whole ∙ ap (λ r. word ++ r) (sym cut), λ xs e. cut ∙ ap (drop n) e ∙ drop_at word xs n (sym long))

@@ -1,11 +1,12 @@
 -- Lines of a text: each ends with a line feed, and the last may do without.
-use Rattle.std.specs.Prelude.{ℕ, suc, ◌+◌, cond, List, [], ◌∷◌, length, take, Some, None, Option, ◌==◌, nat_lt}
+use Rattle.std.specs.Prelude.{◌≡◌, ℕ, ◌+◌, ◌<◌, cond, List, length, take, drop, true, is_some, IfSome, Some, None, Option, ◌==◌, nat_lt}
 use Rattle.std.specs.Borrow.{Bor}
+use Rattle.std.specs.List.{position_or_len}
+use Rattle.std.specs.Option.{option_map}
 
 -- how many bytes stand before the first line feed
 abbrev pub line_length : List ℕ → ℕ
-line_length [] = 0
-line_length (b ∷ bs) = cond (b == 10) 0 (suc (line_length bs))
+line_length bs = position_or_len (λ b. b == 10) bs
 
 abbrev pub first_line : List ℕ → Option (List ℕ)
 first_line bs = cond (length bs == 0) None (Some (take (line_length bs) bs))
@@ -14,10 +15,9 @@ first_line bs = cond (length bs == 0) None (Some (take (line_length bs) bs))
 abbrev pub line_taken : List ℕ → ℕ
 line_taken bs = cond (nat_lt (line_length bs) (length bs)) (line_length bs + 1) (length bs)
 
--- what a line that was found is, and how many bytes were taken for it
-abbrev pub line_in : Bor (List ℕ) × ℕ → List ℕ
-line_in p = p.0.now
-
-abbrev pub taken_in : Option (Bor (List ℕ) × ℕ) → ℕ
-taken_in None = 0
-taken_in (Some p) = p.1
+-- what a step over lines gives from a place in a text on: the line there, with that place, and the place behind it
+pub record StepsLine (text : List ℕ) (at : ℕ) (given : Option (ℕ × Bor (List ℕ))) (after : ℕ) : Type 0 where
+  pub line : option_map (λ x. x.1.now) given ≡ first_line (drop at text)
+  pub begins : IfSome given (λ x. x.0 ≡ at)
+  pub stands : after ≡ at + line_taken (drop at text)
+  pub advances : is_some given ≡ true → at < after

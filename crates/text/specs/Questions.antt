@@ -1,5 +1,5 @@
 -- Questions as they are written: ADDRESS PORT moment N, or ADDRESS PORT tick T.
-use Rattle.std.specs.Prelude.{ℕ, ◌^◌, ◌<◌, ◌≤◌, List, ◌∷◌, ◌++◌, codes, decimal}
+use Rattle.std.specs.Prelude.{ℕ, ◌^◌, ◌<◌, List, ◌∷◌, ◌++◌, codes, decimal}
 use Rattle.text.specs.declared.question.Question.{Question}
 use Rattle.text.specs.declared.question.When.{When}
 use Rattle.text.specs.declared.question.When.TheVariants.{Moment, Tick}
@@ -7,9 +7,6 @@ use Rattle.text.specs.Reading.{dotted}
 
 abbrev pub word_number : List ℕ → ℕ → List ℕ
 word_number word n = word ++ decimal n
-
-abbrev pub IsUpTo : ℕ → ℕ → Type 0
-IsUpTo most n = n ≤ most
 
 abbrev pub when_text : When → List ℕ
 when_text (Moment n) = word_number (codes "moment ") n

@@ -2,25 +2,11 @@
 ghost use Rattle.std.specs.Prelude.{◌^◌};
 ghost use Rattle.text.specs.Reading.{ReadsAs, IsBelow, dotted};
 
-use crate::number::{number, number_before};
+use std::net::Ipv4Addr;
 
 pub fn address(text: &str) -> Option<u32>
     ensures { ReadsAs dotted (IsBelow (2 ^ 32)) text.now result }
 {
-    let Some((a, rest)) = number_before(text, '.') else {
-        return None;
-    };
-    let Some((b, rest)) = number_before(rest, '.') else {
-        return None;
-    };
-    let Some((c, rest)) = number_before(rest, '.') else {
-        return None;
-    };
-    let Some(d) = number(rest) else {
-        return None;
-    };
-    if a > 255 || b > 255 || c > 255 || d > 255 {
-        return None;
-    }
-    Some(u32::from_be_bytes([a as u8, b as u8, c as u8, d as u8]))
+    let address = text.parse::<Ipv4Addr>().ok()?;
+    Some(address.to_bits())
 }

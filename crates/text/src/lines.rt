@@ -1,40 +1,18 @@
-// The lines of a text, one after another, with the place where each begins.
-ghost use Rattle.std.specs.Prelude.{◌≡◌, ◌+◌, ◌<◌, ◌≤◌, true, length, drop, is_some};
-ghost use Rattle.std.specs.Option.{option_map};
-ghost use Rattle.text.specs.Lines.{first_line, line_in, line_length, line_taken, taken_in};
+// The lines of a text, one after another, each with the place where it begins.
+ghost use Rattle.std.specs.Prelude.{◌≡◌, ◌-◌, ◌≤◌, length};
+ghost use Rattle.std.specs.Iterator.{at_most};
+ghost use Rattle.text.specs.Lines.{line_length, StepsLine};
 
 fn line_length(text: &[u8]) -> usize
     ensures is { result ≡ line_length text.now }
     ensures within { result ≤ length text.now }
 {
-    for (i, byte) in text.iter().enumerate() {
-        if *byte == b'\n' {
-            return i;
-        }
-    }
-    text.len()
+    text.iter()
+        .position(|byte| *byte == b'\n')
+        .unwrap_or(text.len())
 }
 
-// The first line, and how many bytes it takes with its line feed.
-fn first_line<'a>(text: &'a [u8]) -> Option<(&'a [u8], usize)>
-    ensures line { option_map line_in result ≡ first_line text.now }
-    ensures stands { taken_in result ≡ line_taken text.now }
-    ensures within { taken_in result ≤ length text.now }
-    ensures some { is_some result ≡ true → 0 < taken_in result }
-{
-    if text.is_empty() {
-        return None;
-    }
-    let length = line_length(text);
-    let taken = if length < text.len() {
-        length + 1
-    } else {
-        length
-    };
-    Some((&text[0..length], taken))
-}
-
-#[derive(Drop)]
+#[derive(Debug, Drop)]
 pub struct Lines<'a> {
     text: &'a [u8],
     at: usize,
@@ -55,18 +33,24 @@ impl<'a> Lines<'a> {
     {
         self.at
     }
+}
 
-    // The next line without its line feed, if there is one.
-    pub fn next(&mut self) -> Option<&'a [u8]>
-        ensures text { self.new.text.now ≡ self.old.text.now }
-        ensures line { option_map (λ x. x.now) result ≡ first_line (drop self.old.at self.old.text.now) }
-        ensures stands { self.new.at ≡ self.old.at + line_taken (drop self.old.at self.old.text.now) }
-        ensures advances { is_some result ≡ true → self.old.at < self.new.at }
-    {
-        let Some((line, taken)) = first_line(&self.text[self.at..]) else {
+impl<'a> Iterator for Lines<'a> {
+    // where a line begins, and the line without its line feed
+    type Item = (usize, &'a [u8]);
+
+    ghost next_gives = { λ s line t. (t.text.now ≡ s.text.now) × StepsLine s.text.now s.at line t.at };
+
+    ghost remaining = { λ s. at_most (length s.text.now - s.at) };
+
+    fn next(&mut self) -> Option<(usize, &'a [u8])> {
+        let begin = self.at;
+        let rest = &self.text[begin..];
+        if rest.is_empty() {
             return None;
-        };
-        self.at += taken;
-        Some(line)
+        }
+        let length = line_length(rest);
+        self.at += (length + 1).min(rest.len());
+        Some((begin, &rest[..length]))
     }
 }

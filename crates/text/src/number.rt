@@ -19,7 +19,7 @@ pub fn number(text: &str) -> Option<u64>
     if !is_plain(text.as_bytes()) {
         return None;
     }
-    text.parse::<u64>().ok()
+    text.parse().ok()
 }
 
 // The number before the first `separator`, and the text behind it.
@@ -27,11 +27,6 @@ pub(crate) fn number_before<'a>(text: &'a str, separator: char) -> Option<(u64, 
     requires { separator < 48 }
     ensures { ReadsBefore decimal (IsBelow (2 ^ 64)) separator text.now result }
 {
-    let Some((front, rest)) = text.split_once(separator) else {
-        return None;
-    };
-    let Some(n) = number(front) else {
-        return None;
-    };
-    Some((n, rest))
+    let (front, rest) = text.split_once(separator)?;
+    Some((number(front)?, rest))
 }

@@ -1,7 +1,7 @@
 // Questions: an address and a port, and when: a moment or a tick.
 ghost use Rattle.std.specs.Prelude.{◌^◌};
-ghost use Rattle.text.specs.Questions.{Askable, AskableAt, asked, IsUpTo, when_text, word_number};
-ghost use Rattle.text.specs.Reading.{ReadsAs};
+ghost use Rattle.text.specs.Questions.{Askable, AskableAt, asked, when_text, word_number};
+ghost use Rattle.text.specs.Reading.{ReadsAs, IsBelow};
 
 use crate::address::address;
 use crate::number::{number, number_before};
@@ -21,29 +21,21 @@ pub struct Question {
     pub when: When,
 }
 
-// The number behind `word`, if it is at most `most`.
-fn number_after(text: &str, word: &str, most: u64) -> Option<u64>
-    ensures { ReadsAs (word_number word.now) (IsUpTo most) text.now result }
+// The number behind `word`.
+fn number_after(text: &str, word: &str) -> Option<u64>
+    ensures { ReadsAs (word_number word.now) (IsBelow (2 ^ 64)) text.now result }
 {
-    let Some(rest) = text.strip_prefix(word) else {
-        return None;
-    };
-    let Some(n) = number(rest) else {
-        return None;
-    };
-    if n > most { None } else { Some(n) }
+    number(text.strip_prefix(word)?)
 }
 
 fn time(text: &str) -> Option<When>
     ensures { ReadsAs when_text AskableAt text.now result }
 {
-    if let Some(n) = number_after(text, "moment ", 0xffff_ffff_ffff_ffff) {
-        return Some(When::Moment(n));
+    if let Some(moment) = number_after(text, "moment ") {
+        return Some(When::Moment(moment));
     }
-    if let Some(t) = number_after(text, "tick ", 0xffff_ffff) {
-        return Some(When::Tick(t as u32));
-    }
-    None
+    let tick = number_after(text, "tick ")?;
+    Some(When::Tick(u32::try_from(tick).ok()?))
 }
 
 impl Question {
@@ -51,24 +43,14 @@ impl Question {
     pub fn read(text: &str) -> Option<Question>
         ensures { ReadsAs asked Askable text.now result }
     {
-        let Some((front, rest)) = text.split_once(' ') else {
-            return None;
-        };
-        let Some(address) = address(front) else {
-            return None;
-        };
-        let Some((port, rest)) = number_before(rest, ' ') else {
-            return None;
-        };
-        if port > 0xffff {
-            return None;
-        }
-        let Some(when) = time(rest) else {
-            return None;
-        };
+        let (front, rest) = text.split_once(' ')?;
+        let address = address(front)?;
+        let (port, rest) = number_before(rest, ' ')?;
+        let port = u16::try_from(port).ok()?;
+        let when = time(rest)?;
         Some(Question {
             address,
-            port: port as u16,
+            port,
             when,
         })
     }
@@ -77,9 +59,7 @@ impl Question {
     pub fn from_line(line: &[u8]) -> Option<Question>
         ensures { ReadsAs asked Askable line.now result }
     {
-        let Ok(text) = from_utf8(line) else {
-            return None;
-        };
+        let text = from_utf8(line).ok()?;
         Question::read(text)
     }
 }

@@ -1,120 +1,120 @@
 // What the programs print, as text.
-ghost use Rattle.std.specs.Prelude.{◌≡◌, ◌<◌, ◌++◌, IfOk, string_bytes};
-ghost use Rattle.text.specs.Reports.{count_text, end_text, fault_text, hex_digit, hex_text, holder_text, more_text, names_text, packet_text, refused_text, unknown_text};
+ghost use Rattle.std.specs.Prelude.{◌≡◌, ◌≤◌, length, IfOk, Some};
+ghost use Rattle.text.specs.Reports.{hex_text, line_text, names_text};
 
 use blocks::refusal::Refusal;
-use std::alloc::{AllocError, Global};
+use std::{fmt, str};
 
-// A packet that was refused.
-pub fn refused_line(heap: Global, moment: u64, cause: Refusal) -> Result<String, AllocError>
-    ensures { IfOk result (λ s. string_bytes s ≡ refused_text moment cause) }
-{
-    let number = cause.number();
-    format!(in heap; "{moment} refused {number}")
+// A line of a program's output, without its line feed.
+#[derive(Clone, Copy, Debug, PartialEq, Eq)]
+pub enum Line<'a> {
+    // a packet that was refused
+    Refused {
+        moment: u64,
+        cause: Refusal,
+    },
+    // a packet that leaves: `out`, `in` or `turned`, and all its bytes; any word is taken, as it was promised
+    Packet {
+        moment: u64,
+        way: &'a str,
+        packet: &'a [u8],
+    },
+    // the last line of a run
+    End {
+        events: u64,
+        tick: u32,
+        lines: u64,
+    },
+    // who had a port, if anybody had
+    Holder(Option<u16>),
+    // all that had a port, in order, with spaces between; `nobody` for none
+    Names(&'a [u16]),
+    // the cause's number, in place of an answer that only a damaged book could give
+    Unknown(Refusal),
+    // the most further blocks given at one time, and to how many subscribers
+    Count {
+        blocks: usize,
+        subscribers: usize,
+    },
+    // a fault in a file
+    Fault {
+        file: &'a str,
+        cause: Refusal,
+        byte: usize,
+    },
 }
 
-// A packet that leaves: `out`, `in` or `turned`, and all its bytes.
-pub fn packet_line(
-    heap: Global,
-    moment: u64,
-    way: &str,
-    packet: &[u8],
-) -> Result<String, AllocError>
-    ensures { IfOk result (λ s. string_bytes s ≡ packet_text moment way.now packet.now) }
-{
-    let digits = hex(heap, packet)?;
-    format!(in heap; "{moment} {way} {digits}")
-}
+impl fmt::Display for Line<'_> {
+    ghost output = { λ line. Some (line_text line) };
 
-// The last line of a run.
-pub fn end_line(heap: Global, events: u64, tick: u32, lines: u64) -> Result<String, AllocError>
-    ensures { IfOk result (λ s. string_bytes s ≡ end_text events tick lines) }
-{
-    format!(in heap; "events {events} tick {tick} lines {lines}")
-}
-
-// Who had a port, if anybody had.
-pub fn holder_line(heap: Global, holder: Option<u16>) -> Result<String, AllocError>
-    ensures { IfOk result (λ s. string_bytes s ≡ holder_text holder) }
-{
-    match holder {
-        Some(subscriber) => format!(in heap; "{subscriber}"),
-        None => String::from_str(heap, "nobody"),
+    fn fmt<W: fmt::Write>(&self, f: &mut fmt::Formatter<W>) -> fmt::Result {
+        match *self {
+            Line::Refused { moment, cause } => write!(f, "{moment} refused {cause}"),
+            Line::Packet {
+                moment,
+                way,
+                packet,
+            } => write!(f, "{moment} {way} {}", Hex(packet)),
+            Line::End {
+                events,
+                tick,
+                lines,
+            } => write!(f, "events {events} tick {tick} lines {lines}"),
+            Line::Holder(Some(subscriber)) => write!(f, "{subscriber}"),
+            Line::Holder(None) => f.write_str("nobody"),
+            Line::Names(names) => f.write(Names(names)),
+            Line::Unknown(cause) => write!(f, "fault {cause}"),
+            Line::Count {
+                blocks,
+                subscribers,
+            } => write!(f, "blocks {blocks} pitches {subscribers}"),
+            Line::Fault { file, cause, byte } => write!(f, "{file}: fault {cause} at byte {byte}"),
+        }
     }
 }
 
-// The cause's number, in place of an answer that only a damaged book could give.
-pub fn unknown_line(heap: Global, cause: Refusal) -> Result<String, AllocError>
-    ensures { IfOk result (λ s. string_bytes s ≡ unknown_text cause) }
-{
-    let number = cause.number();
-    format!(in heap; "fault {number}")
-}
+// Names with spaces between.
+#[derive(Clone, Copy, Debug, PartialEq, Eq)]
+struct Names<'a>(&'a [u16]);
 
-// More names behind a text, each with a space before it.
-fn with_names(heap: Global, mut text: String, names: &[u16]) -> Result<String, AllocError>
-    ensures { IfOk result (λ s. string_bytes s ≡ string_bytes text ++ more_text names.now) }
-{
-    for name in names {
-        let more = format!(in heap; " {name}")?;
-        text.push_str(more.as_str())?;
-    }
-    Ok(text)
-}
+impl fmt::Display for Names<'_> {
+    ghost output = { λ names. Some (names_text names.0.now) };
 
-// All that had a port, in order, with spaces between; `nobody` for none.
-pub fn names_line(heap: Global, names: &[u16]) -> Result<String, AllocError>
-    ensures { IfOk result (λ s. string_bytes s ≡ names_text names.now) }
-{
-    if names.is_empty() {
-        return String::from_str(heap, "nobody");
-    }
-    let first = names[0];
-    let text = format!(in heap; "{first}")?;
-    with_names(heap, text, &names[1..])
-}
-
-// The most further blocks given at one time, and to how many subscribers.
-pub fn count_line(heap: Global, blocks: usize, subscribers: usize) -> Result<String, AllocError>
-    ensures { IfOk result (λ s. string_bytes s ≡ count_text blocks subscribers) }
-{
-    format!(in heap; "blocks {blocks} pitches {subscribers}")
-}
-
-// A fault in a file.
-pub fn fault_line(
-    heap: Global,
-    file: &str,
-    cause: Refusal,
-    byte: usize,
-) -> Result<String, AllocError>
-    ensures { IfOk result (λ s. string_bytes s ≡ fault_text file.now cause byte) }
-{
-    let number = cause.number();
-    format!(in heap; "{file}: fault {number} at byte {byte}")
-}
-
-fn hex_digit(n: u8) -> char
-    requires { n < 16 }
-    ensures { result ≡ hex_digit n }
-{
-    if n < 10 {
-        char::from(b'0' + n)
-    } else {
-        char::from(b'a' + (n - 10))
+    fn fmt<W: fmt::Write>(&self, f: &mut fmt::Formatter<W>) -> fmt::Result {
+        let [first, rest @ ..] = self.0 else {
+            return f.write_str("nobody");
+        };
+        write!(f, "{first}")?;
+        for name in rest {
+            write!(f, " {name}")?;
+        }
+        Ok(())
     }
 }
 
 // Bytes in hexadecimal, in lower case.
-pub fn hex(heap: Global, bytes: &[u8]) -> Result<String, AllocError>
-    ensures { IfOk result (λ s. string_bytes s ≡ hex_text bytes.now) }
+#[derive(Clone, Copy, Debug, PartialEq, Eq)]
+pub struct Hex<'a>(pub &'a [u8]);
+
+// The digits of some bytes, written into `room`.
+fn digits<'a>(bytes: &[u8], room: &'a mut [u8; 512]) -> Result<&'a str, fmt::Error>
+    requires { length bytes.now ≤ 256 }
+    ensures { IfOk result (λ text. text.now ≡ hex_text bytes.now) }
 {
-    let mut text = String::new(heap);
-    for byte in bytes {
-        let high = hex_digit(*byte / 16);
-        let low = hex_digit(*byte % 16);
-        text.push(high)?;
-        text.push(low)?;
+    let digits = &mut room[..2 * bytes.len()];
+    hex::encode_to_slice(bytes, digits).map_err(|_| fmt::Error)?;
+    str::from_utf8(digits).map_err(|_| fmt::Error)
+}
+
+impl fmt::Display for Hex<'_> {
+    ghost output = { λ bytes. Some (hex_text bytes.0.now) };
+
+    fn fmt<W: fmt::Write>(&self, f: &mut fmt::Formatter<W>) -> fmt::Result {
+        // many bytes at a time: with a write for each, a packet takes three times as long
+        let mut room = [0; 512];
+        for bytes in self.0.chunks(256) {
+            f.write_str(digits(bytes, &mut room)?)?;
+        }
+        Ok(())
     }
-    Ok(text)
 }

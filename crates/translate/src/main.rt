@@ -2,16 +2,18 @@
 // A line is an external address and port, an internal address and port, and a packet; one that begins with '#' is printed as it stands.
 #![tactic(auto)]
 
-use blocks::refusal::Refusal;
 use mappings::event::Protocol;
-use packets::facts::{Endpoint, Facts, Heading, Reading};
+use packets::facts::{End, Endpoint, Parsed, Reading, Relocation};
 use packets::reader::read;
-use packets::writer::{write_in, write_out};
+use packets::writer::write;
 use std::alloc::{AllocError, Global};
-use std::io;
 use std::io::{BufRead, BufReader};
+use std::net::{Ipv4Addr, SocketAddrV4};
+use std::{fmt, io};
 use sums::words::{long_at, word_at};
+use text::report::Hex;
 
+// Only these are digits: `hex::decode` takes upper case too, and refuses what is passed over here.
 fn digit(b: u8) -> Option<u8> {
     match b {
         b'0'..=b'9' => Some(b - b'0'),
@@ -28,10 +30,7 @@ fn joined(high: u8, low: u8) -> u8 {
 fn bytes_of(heap: Global, text: &str) -> Result<Vec<u8>, AllocError> {
     let mut bytes = Vec::new(heap);
     let mut high = None;
-    for b in text.bytes() {
-        let Some(low) = digit(b) else {
-            continue;
-        };
+    for low in text.bytes().filter_map(digit) {
         high = match high {
             None => Some(low),
             Some(h) => {
@@ -43,48 +42,45 @@ fn bytes_of(heap: Global, text: &str) -> Result<Vec<u8>, AllocError> {
     Ok(bytes)
 }
 
-fn endpoint_at(bytes: &[u8], at: usize) -> Endpoint {
-    if bytes.len() < 12 || at > 6 {
-        return Endpoint {
-            address: 0,
-            port: 0,
-        };
-    }
+#[derive(Clone, Copy, Debug, PartialEq, Eq)]
+struct Case<'a> {
+    external: Endpoint,
+    internal: Endpoint,
+    packet: &'a [u8],
+}
+
+fn endpoint_of(bytes: &[u8; 6]) -> Endpoint {
     Endpoint {
-        address: long_at(bytes, at),
-        port: word_at(bytes, at + 4),
+        address: long_at(bytes, 0),
+        port: word_at(bytes, 4),
     }
 }
 
-fn translate_out(packet: &mut [u8], external: Endpoint) -> bool {
+fn case_of(bytes: &[u8]) -> Option<Case> {
+    let (external, rest) = bytes.split_first_chunk()?;
+    let (internal, packet) = rest.split_first_chunk()?;
+    Some(Case {
+        external: endpoint_of(external),
+        internal: endpoint_of(internal),
+        packet,
+    })
+}
+
+// The packet as it is written, if it is one.
+fn translated(
+    heap: Global,
+    packet: &[u8],
+    relocation: Relocation,
+) -> Result<Option<Vec<u8>>, AllocError> {
     let Ok(Reading::Packet(facts)) = read(packet) else {
-        return false;
+        return Ok(None);
     };
-    write_out(packet, facts, 1, external);
-    true
+    let mut out = packet.to_vec(heap)?;
+    write(out.as_mut_slice(), facts, relocation);
+    Ok(Some(out))
 }
 
-fn translate_in(packet: &mut [u8], internal: Endpoint) -> bool {
-    let Ok(Reading::Packet(facts)) = read(packet) else {
-        return false;
-    };
-    write_in(packet, facts, 1, internal);
-    true
-}
-
-fn hex(heap: Global, bytes: &[u8]) -> Result<String, AllocError> {
-    let mut text = String::new(heap);
-    for b in bytes {
-        text.push_str(format!(in heap; "{b:02x}")?.as_str())?;
-    }
-    Ok(text)
-}
-
-fn dotted(heap: Global, address: u32) -> Result<String, AllocError> {
-    let [a, b, c, d] = address.to_be_bytes();
-    format!(in heap; "{a}.{b}.{c}.{d}")
-}
-
+// In lower case, which a derived `Debug` is not.
 fn name(protocol: Protocol) -> &'static str {
     match protocol {
         Protocol::Udp => "udp",
@@ -93,58 +89,60 @@ fn name(protocol: Protocol) -> &'static str {
     }
 }
 
-fn end_text(heap: Global, end: Endpoint) -> Result<String, AllocError> {
-    let address = dotted(heap, end.address)?;
-    let port = end.port;
-    format!(in heap; "{address}:{port}")
+fn socket(endpoint: Endpoint) -> SocketAddrV4 {
+    SocketAddrV4::new(Ipv4Addr::from_bits(endpoint.address), endpoint.port)
 }
 
-fn facts_text(heap: Global, facts: Facts) -> Result<String, AllocError> {
-    let name = name(facts.protocol);
-    let source = end_text(heap, facts.source)?;
-    let destination = end_text(heap, facts.destination)?;
-    let ttl = facts.ttl;
-    format!(in heap; "{name} {source} > {destination} ttl {ttl}")
-}
+// What is printed of what was read.
+#[derive(Clone, Copy, Debug, PartialEq, Eq)]
+struct Line(Parsed);
 
-fn heading_text(heap: Global, heading: Heading) -> Result<String, AllocError> {
-    let source = dotted(heap, heading.source)?;
-    let destination = dotted(heap, heading.destination)?;
-    let ttl = heading.ttl;
-    format!(in heap; "error {source} > {destination} ttl {ttl}")
-}
-
-fn reading_text(heap: Global, reading: Result<Reading, Refusal>) -> Result<String, AllocError> {
-    match reading {
-        Ok(Reading::Packet(facts)) => facts_text(heap, facts),
-        Ok(Reading::Error(heading)) => heading_text(heap, heading),
-        Err(refusal) => {
-            let number = refusal.number();
-            format!(in heap; "refused {number}")
+impl fmt::Display for Line {
+    fn fmt<W: fmt::Write>(&self, f: &mut fmt::Formatter<W>) -> fmt::Result {
+        match self.0 {
+            Ok(Reading::Packet(facts)) => {
+                let name = name(facts.protocol);
+                let source = socket(facts.source);
+                let destination = socket(facts.destination);
+                let ttl = facts.ttl;
+                write!(f, "{name} {source} > {destination} ttl {ttl}")
+            }
+            Ok(Reading::Error(heading)) => {
+                let source = Ipv4Addr::from_bits(heading.source);
+                let destination = Ipv4Addr::from_bits(heading.destination);
+                let ttl = heading.ttl;
+                write!(f, "error {source} > {destination} ttl {ttl}")
+            }
+            Err(cause) => write!(f, "refused {cause}"),
         }
     }
 }
 
-fn admitted(packet: &[u8]) -> Result<Reading, Refusal> {
+fn admitted(packet: &[u8]) -> Parsed {
     read(packet)?.admit()
 }
 
 // The lines that are printed for a case.
-fn answer(heap: Global, case: &[u8]) -> Result<String, AllocError> {
-    if case.len() < 12 {
+fn answer(heap: Global, bytes: &[u8]) -> Result<String, AllocError> {
+    let Some(case) = case_of(bytes) else {
         return String::from_str(heap, "too short");
-    }
-    let packet = &case[12..];
-    let mut text = reading_text(heap, admitted(packet))?;
-    let mut out = packet.to_vec(heap)?;
-    if translate_out(out.as_mut_slice(), endpoint_at(case, 0)) {
-        text.push_str("\nout ")?;
-        text.push_str(hex(heap, out.as_slice())?.as_str())?;
-    }
-    let mut back = packet.to_vec(heap)?;
-    if translate_in(back.as_mut_slice(), endpoint_at(case, 6)) {
-        text.push_str("\nin ")?;
-        text.push_str(hex(heap, back.as_slice())?.as_str())?;
+    };
+    let line = Line(admitted(case.packet));
+    let mut text = format!(in heap; "{line}")?;
+    let ways = [
+        ("out", End::Source, case.external),
+        ("in", End::Destination, case.internal),
+    ];
+    for (way, end, endpoint) in ways {
+        let relocation = Relocation {
+            end,
+            endpoint,
+            hops: 1,
+        };
+        if let Some(out) = translated(heap, case.packet, relocation)? {
+            let digits = Hex(out.as_slice());
+            text.push_str(format!(in heap; "\n{way} {digits}")?.as_str())?;
+        }
     }
     Ok(text)
 }

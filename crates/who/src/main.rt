@@ -4,11 +4,12 @@
 use blocks::refusal::Refusal;
 use blocks::settings::Settings;
 use book::book::Book;
+use book::no_answer::NoAnswer;
 use shell::Trouble;
 use std::process::ExitCode;
 use text::lines::Lines;
 use text::question::{Question, When};
-use text::report::{holder_line, names_line, unknown_line};
+use text::report::Line;
 
 fn main(rt: HostRuntime) -> ExitCode {
     shell::status(&rt, run(&rt))
@@ -23,25 +24,18 @@ fn run(rt: &HostRuntime) -> Result<(), Trouble> {
     let bytes = shell::contents(rt, file.as_str())?;
     let book = Book::read(rt.alloc(), &settings, bytes.as_slice())?;
     let text = shell::contents(rt, questions.as_str())?;
-    let mut lines = Lines::new(text.as_slice());
-    let malformed = answer_all(rt, &settings, &book, &mut lines)?;
-    let read = match book.fault() {
+    let malformed = answer_all(rt, &settings, &book, text.as_slice())?;
+    // both are named where both are faulty, the book first
+    let mut trouble = None;
+    if let Some(fault) = book.fault() {
+        trouble = Some(shell::fault(rt, file.as_str(), fault.cause, fault.byte));
+    }
+    if let Some(byte) = malformed {
+        trouble = Some(shell::fault(rt, questions.as_str(), Refusal::Malformed, byte));
+    }
+    match trouble {
+        Some(trouble) => Err(trouble),
         None => Ok(()),
-        Some(fault) => Err(shell::fault(rt, file.as_str(), fault.cause, fault.byte)),
-    };
-    match malformed {
-        None => read,
-        Some(byte) => match read {
-            Ok(()) => Err(shell::fault(rt, questions.as_str(), Refusal::Malformed, byte)),
-            Err(Trouble::Said) => Err(shell::fault(
-                rt,
-                questions.as_str(),
-                Refusal::Malformed,
-                byte,
-            )),
-            Err(Trouble::Memory) => Err(Trouble::Memory),
-            Err(Trouble::Output(why)) => Err(Trouble::Output(why)),
-        },
     }
 }
 
@@ -50,18 +44,15 @@ fn answer_all(
     rt: &HostRuntime,
     settings: &Settings,
     book: &Book,
-    lines: &mut Lines,
+    text: &[u8],
 ) -> Result<Option<usize>, Trouble> {
-    loop {
-        let begin = lines.at();
-        let Some(line) = lines.next() else {
-            return Ok(None);
-        };
+    for (byte, line) in Lines::new(text) {
         let Some(question) = Question::from_line(line) else {
-            return Ok(Some(begin));
+            return Ok(Some(byte));
         };
-        rt.println(answer(rt, settings, book, question)?)?;
+        answer(rt, settings, book, question)?;
     }
+    Ok(None)
 }
 
 fn answer(
@@ -69,27 +60,25 @@ fn answer(
     settings: &Settings,
     book: &Book,
     question: Question,
-) -> Result<String, Trouble> {
-    let heap = rt.alloc();
-    match question.when {
-        When::Moment(moment) => match book.who_at(
-            settings,
-            question.address,
-            question.port,
-            moment,
-        ) {
-            Ok(holder) => Ok(holder_line(heap, holder)?),
-            Err(cause) => Ok(unknown_line(heap, cause)?),
-        },
-        When::Tick(tick) => match book.who_in(
-            heap,
-            settings,
-            question.address,
-            question.port,
-            tick,
-        )? {
-            Ok(names) => Ok(names_line(heap, names.as_slice())?),
-            Err(cause) => Ok(unknown_line(heap, cause)?),
+) -> Result<(), Trouble> {
+    let Question {
+        address,
+        port,
+        when,
+    } = question;
+    match when {
+        When::Moment(moment) => {
+            let line = match book.who_at(settings, address, port, moment) {
+                Ok(holder) => Line::Holder(holder),
+                Err(cause) => Line::Unknown(cause),
+            };
+            rt.println(line)?;
+        }
+        When::Tick(tick) => match book.who_in(rt.alloc(), settings, address, port, tick) {
+            Ok(names) => rt.println(Line::Names(names.as_slice()))?,
+            Err(NoAnswer::Fault(cause)) => rt.println(Line::Unknown(cause))?,
+            Err(NoAnswer::Memory(error)) => return Err(error.into()),
         },
     }
+    Ok(())
 }

@@ -1,10 +1,9 @@
 // Settings made from numbers, read from their 17 bytes, and written into them.
-ghost use Rattle.blocks.specs.Config.{blocks_of, is_block_size};
+ghost use Rattle.blocks.specs.Config.{is_block_size};
 ghost use Rattle.blocks.specs.Settings.{accepted, config, configs, settings_bytes, settings_in};
 ghost use Rattle.std.specs.Prelude.{◌≡◌};
 
 use super::Settings;
-use crate::bytes::{u16_at, u32_at};
 use crate::refusal::Refusal;
 
 fn is_block_size(size: u16) -> bool
@@ -53,23 +52,21 @@ impl Settings {
     pub fn read(bytes: &[u8]) -> Result<Settings, Refusal>
         ensures { configs result ≡ settings_in bytes.now }
     {
-        if bytes.len() != 17 {
-            return Err(Refusal::Malformed);
-        }
-        let (Some(external), Some(internal)) = (u32_at(bytes, 0), u32_at(bytes, 4)) else {
+        let [a, b, c, d, e, f, g, h, i, j, k, l, further, m, n, o, p] = *bytes else {
             return Err(Refusal::Malformed);
         };
-        let (Some(subscribers), Some(size)) = (u16_at(bytes, 8), u16_at(bytes, 10)) else {
-            return Err(Refusal::Malformed);
-        };
-        let further = bytes[12];
-        let (Some(life), Some(rest)) = (u16_at(bytes, 13), u16_at(bytes, 15)) else {
-            return Err(Refusal::Malformed);
-        };
-        Settings::new(external, internal, subscribers, size, further, life, rest)
+        Settings::new(
+            u32::from_be_bytes([a, b, c, d]),
+            u32::from_be_bytes([e, f, g, h]),
+            u16::from_be_bytes([i, j]),
+            u16::from_be_bytes([k, l]),
+            further,
+            u16::from_be_bytes([m, n]),
+            u16::from_be_bytes([o, p]),
+        )
     }
 
-    // The 17 bytes of these settings.
+    // The 17 bytes of these settings, named one by one, since no array is joined out of arrays.
     pub fn to_bytes(&self) -> [u8; 17]
         ensures { result ≡ settings_bytes (config self.now) }
     {

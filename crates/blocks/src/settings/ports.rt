@@ -44,24 +44,15 @@ impl Settings {
     pub fn port(&self, place: Place) -> Option<u16>
         ensures { result ≡ port_at (config self.now) place }
     {
-        if place.block >= self.blocks() {
-            return None;
-        }
-        if place.offset >= self.size {
-            return None;
-        }
-        Some(1024 + place.block * self.size + place.offset)
+        let is_one = place.block < self.blocks() && place.offset < self.size;
+        is_one.then(|| 1024 + place.block * self.size + place.offset)
     }
 
     // The subscriber whose first block this is.
     pub fn first_holder(&self, block: u16) -> Option<u16>
         ensures { result ≡ first_holder (config self.now) block }
     {
-        if block < self.subscribers {
-            Some(block)
-        } else {
-            None
-        }
+        (block < self.subscribers).then_some(block)
     }
 
     // Whether this is a block that is given to subscribers who need more than their first.
@@ -75,22 +66,14 @@ impl Settings {
     pub fn address(&self, subscriber: u16) -> Option<u32>
         ensures { result ≡ address_of (config self.now) subscriber }
     {
-        if subscriber < self.subscribers {
-            Some(self.internal + u32::from(subscriber))
-        } else {
-            None
-        }
+        (subscriber < self.subscribers).then(|| self.internal + u32::from(subscriber))
     }
 
     // The subscriber whose internal address this is.
     pub fn subscriber_at(&self, address: u32) -> Option<u16>
         ensures { result ≡ subscriber_at (config self.now) address }
     {
-        let number = address.checked_sub(self.internal)?;
-        if number < u32::from(self.subscribers) {
-            Some(number as u16)
-        } else {
-            None
-        }
+        let number = u16::try_from(address.checked_sub(self.internal)?).ok()?;
+        (number < self.subscribers).then_some(number)
     }
 }

@@ -12,11 +12,10 @@ use crate::events::{event, return_event};
 use crate::outcome::Outcome;
 use crate::promise::promise_holds;
 use crate::rewriting::{is_to_us, leave, outcome};
-use blocks::refusal::Refusal;
 use blocks::settings::Settings;
 use mappings::event::Event;
 use mappings::line::Line;
-use packets::facts::Reading;
+use packets::facts::Parsed;
 use packets::reader::read;
 use records::record::Side;
 use std::alloc::{AllocError, Global};
@@ -80,13 +79,7 @@ impl Gateway {
         self.table.tick()
     }
 
-    fn handle(
-        &mut self,
-        reading: Result<Reading, Refusal>,
-        event: Event,
-        hops: u8,
-        bytes: &mut [u8],
-    ) -> Outcome
+    fn handle(&mut self, reading: Parsed, event: Event, hops: u8, bytes: &mut [u8]) -> Outcome
         requires { read_of bytes.old ≡ reading }
         ensures { Handled (config_in self.old) (state_in self.old) hops event bytes.old self.new result bytes.new }
     {

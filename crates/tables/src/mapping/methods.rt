@@ -2,48 +2,22 @@
 ghost use Rattle.blocks.specs.Settings.{config};
 ghost use Rattle.mappings.specs.Mappings.{is_in, is_of, live, live_or_resting, made, noting, same_protocol, without};
 ghost use Rattle.tables.specs.Rows.{meaning};
-ghost use Rattle.std.specs.Prelude.{◌≡◌, ◌∷◌, length, take};
+ghost use Rattle.std.specs.Prelude.{◌≡◌, ◌∷◌, take};
 
 use super::Mapping;
 use blocks::settings::Settings;
 use mappings::event::{Outward, Protocol, Verdict};
 
-// Whether the address is among these.
-fn contains(addresses: &[u32], address: u32) -> bool
-    ensures { result ≡ is_in address addresses.now }
-{
-    for known in addresses {
-        if *known == address {
-            return true;
-        }
-    }
-    false
-}
-
 // Puts an address first; the others move up, to where it stood or over the end.
-fn put_first(addresses: &mut [u32], address: u32)
-    ensures { addresses.new ≡ take (length addresses.old) (address ∷ without address addresses.old) }
+fn put_first(addresses: &mut [u32; 16], address: u32)
+    ensures { addresses.new ≡ take 16 (address ∷ without address addresses.old) }
 {
-    let mut carried = address;
-    for place in addresses.iter_mut() {
-        let here = *place;
-        *place = carried;
-        if here == address {
-            return;
-        }
-        carried = here;
-    }
-}
-
-fn same(a: Protocol, b: Protocol) -> bool
-    ensures { result ≡ same_protocol a b }
-{
-    match (a, b) {
-        (Protocol::Udp, Protocol::Udp) => true,
-        (Protocol::Tcp, Protocol::Tcp) => true,
-        (Protocol::Echo, Protocol::Echo) => true,
-        _ => false,
-    }
+    let last = addresses
+        .iter()
+        .position(|here| *here == address)
+        .unwrap_or(15);
+    addresses[..=last].rotate_right(1);
+    addresses[0] = address;
 }
 
 impl Mapping {
@@ -64,26 +38,19 @@ impl Mapping {
     }
 
     // The mapping after one more packet outwards, at this tick and to this address.
-    pub fn noting(self, tick: u32, address: u32) -> Mapping
+    pub fn noting(mut self, tick: u32, address: u32) -> Mapping
         ensures { meaning result ≡ noting tick address (meaning self) }
     {
-        let mut addresses = self.addresses;
-        let mut count = self.count;
-        if count < 16 && !self.remembers(address) {
-            count += 1;
+        if self.count < 16 && !self.remembers(address) {
+            self.count += 1;
         }
-        put_first(&mut addresses, address);
-        Mapping {
-            subscriber: self.subscriber,
-            protocol: self.protocol,
-            port: self.port,
-            last: tick,
-            addresses,
-            count,
-        }
+        put_first(&mut self.addresses, address);
+        self.last = tick;
+        self
     }
 
-    // Whether it is live at this tick.
+    // Whether it is live at this tick. The tick and the settings come each by itself, as the table holds them:
+    // a pair of the two would be made anew for each call.
     pub fn is_live(&self, tick: u32, settings: &Settings) -> bool
         ensures { result ≡ live (config settings.now) tick (meaning self.now) }
     {
@@ -103,14 +70,14 @@ impl Mapping {
         ensures { result ≡ is_of packet.now (meaning self.now) }
     {
         self.subscriber == packet.subscriber
-            && same(self.protocol, packet.protocol)
+            && self.protocol == packet.protocol
             && self.port == packet.port
     }
 
     pub fn has_protocol(&self, protocol: Protocol) -> bool
         ensures { result ≡ same_protocol self.now.protocol protocol }
     {
-        same(self.protocol, protocol)
+        self.protocol == protocol
     }
 
     // What comes in by it is delivered there.
@@ -127,6 +94,6 @@ impl Mapping {
     pub fn remembers(&self, address: u32) -> bool
         ensures { result ≡ is_in address (meaning self.now).remembered }
     {
-        contains(&self.addresses[0..self.count as usize], address)
+        self.addresses[..usize::from(self.count)].contains(&address)
     }
 }

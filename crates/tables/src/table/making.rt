@@ -1,24 +1,14 @@
 // Making a table: here all memory is taken.
-ghost use Rattle.std.specs.Prelude.{◌≡◌, ℕ, replicate, IfOk};
+ghost use Rattle.std.specs.Prelude.{IfOk};
 ghost use Rattle.blocks.specs.Settings.{config};
-ghost use Rattle.mappings.specs.States.{fresh};
 ghost use Rattle.tables.specs.Models.{Began};
 
 use super::Table;
-use crate::further::Further;
+use crate::bits::Given;
+use crate::slots::Slots;
+use arrayvec::ArrayVec;
 use blocks::settings::Settings;
 use std::alloc::{AllocError, Global};
-
-// As many of one value.
-fn filled<T: Copy>(heap: Global, value: T, count: usize) -> Result<Vec<T>, AllocError>
-    ensures { IfOk result (λ v. v.items ≡ replicate count value) }
-{
-    let mut items = Vec::with_capacity(heap, count)?;
-    for _ in 0..count {
-        items.push_reserved(value);
-    }
-    Ok(items)
-}
 
 impl Table {
     // The table of a gateway that has seen nothing yet.
@@ -32,16 +22,16 @@ impl Table {
     pub fn at(heap: Global, settings: Settings, tick: u32, moment: u64) -> Result<Table, AllocError>
         ensures { IfOk result (Began (config settings) tick moment) }
     {
-        let slots = filled(heap, None, 64512)?;
-        let further = filled(heap, Further::none(), settings.subscribers() as usize)?;
-        let holders = filled(heap, None, settings.blocks() as usize)?;
-        let lines = Vec::with_capacity(heap, settings.blocks() as usize)?;
+        let slots = Slots::none(heap)?;
+        let further = vec![in heap; ArrayVec::new(); usize::from(settings.subscribers())]?;
+        let holders = vec![in heap; None; usize::from(settings.blocks())]?;
+        let lines = Vec::with_capacity(heap, usize::from(settings.blocks()))?;
         Ok(Table {
             settings,
             slots,
             further,
             holders,
-            given: [0; 63],
+            given: Given::none(),
             lines,
             tick,
             moment,

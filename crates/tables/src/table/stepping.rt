@@ -1,20 +1,48 @@
 // One event: the table does what the definitions say.
-ghost use Rattle.mappings.specs.Steps.{exhausted, step as step_of};
-ghost use Rattle.tables.specs.Models.{Did, config_of, lines_of, model};
-ghost use Rattle.std.specs.Prelude.{◌≡◌, []};
+ghost use Rattle.mappings.specs.Steps.{handled, step as step_of};
+ghost use Rattle.tables.specs.Models.{Did, Does, config_of, ends, lines_of, model};
+ghost use Rattle.std.specs.Prelude.{◌≡◌, false, []};
 
 use super::Table;
 use blocks::refusal::Refusal;
 use mappings::event::{Event, Verdict};
 
 impl Table {
-    // The run is over: nothing else changes, not even the count of events.
-    fn end(&mut self) -> Verdict
-        requires { lines_of self.old ≡ [] }
-        ensures { Did (config_of self.old) (exhausted (model self.old)) self.new result }
+    // Whether the run is over, or ends by this event: the count of events or the tick has reached its end.
+    fn ends_by(&self, event: &Event) -> bool
+        ensures { result ≡ ends event.now (model self.now) }
     {
-        self.over = true;
-        Verdict::Refused(Refusal::Exhausted)
+        self.over
+            || self.moment == u64::MAX
+            || (matches!(event, Event::Tick) && self.tick == u32::MAX)
+    }
+
+    // What the event does, but for the count of events.
+    fn handle(&mut self, event: &Event) -> Verdict
+        requires lines { lines_of self.old ≡ [] }
+        requires goes_on { ends event.now (model self.old) ≡ false }
+        ensures { Does (config_of self.old) self.old.moment (handled (config_of self.old) event.now (model self.old)) self.new result (lines_of self.new) }
+    {
+        match event {
+            Event::Unreadable(refusal) => Verdict::Refused(*refusal),
+            Event::Goes(packet) => {
+                let (verdict, line) = self.goes(packet);
+                if let Some(line) = line {
+                    self.lines.push_reserved(line);
+                }
+                verdict
+            }
+            Event::Comes(packet) => {
+                self.arrival(packet, Refusal::NoMapping, Refusal::NotRemembered)
+            }
+            Event::ErrorGoes(packet) => self.error_out(packet),
+            Event::ErrorComes(packet) => self.arrival(
+                packet,
+                Refusal::UnrelatedError,
+                Refusal::UnrelatedError,
+            ),
+            Event::Tick => self.ticks(),
+        }
     }
 
     // Handles one event, and says what becomes of it.
@@ -22,30 +50,13 @@ impl Table {
         ensures { Did (config_of self.old) (step_of (config_of self.old) event.now (model self.old)) self.new result }
     {
         self.lines.clear();
-        if self.over || self.moment == u64::MAX {
-            return self.end();
+        // nothing else changes, not even the count of events
+        if self.ends_by(event) {
+            self.over = true;
+            return Verdict::Refused(Refusal::Exhausted);
         }
-        match event {
-            Event::Unreadable(refusal) => self.only(Verdict::Refused(*refusal)),
-            Event::Goes(packet) => self.goes(packet),
-            Event::Comes(packet) => {
-                let verdict = self.arrival(packet, Refusal::NoMapping, Refusal::NotRemembered);
-                self.only(verdict)
-            }
-            Event::ErrorGoes(packet) => {
-                let verdict = self.error_out(packet);
-                self.only(verdict)
-            }
-            Event::ErrorComes(packet) => {
-                let verdict = self.arrival(
-                    packet,
-                    Refusal::UnrelatedError,
-                    Refusal::UnrelatedError,
-                );
-                self.only(verdict)
-            }
-            Event::Tick if self.tick == u32::MAX => self.end(),
-            Event::Tick => self.ticks(),
-        }
+        let verdict = self.handle(event);
+        self.moment += 1;
+        verdict
     }
 }

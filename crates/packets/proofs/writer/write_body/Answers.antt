@@ -1,28 +1,29 @@
 -- The moved sum, spelled as it is sent, is the fresh one.
-use Rattle.std.proofs.Common.{◌+◌, ap, ◌∙◌}
+use Rattle.std.proofs.Common.{◌≡◌, ℕ, ◌+◌, false, List, refl, arith}
+use Rattle.std.proofs.lemmas.Bool.Decides.{nat_tests}
+use Rattle.sums.specs.Words.{word_at, put_word, word_sum}
 use Rattle.sums.specs.Sums.{moved}
-use Rattle.packets.proofs.Bodies.{spelled_steps, plain_steps}
+use Rattle.mappings.specs.declared.event.Protocol.{Protocol}
+use Rattle.packets.specs.declared.facts.End.{End}
+use Rattle.packets.specs.Fields.{port_at, sum_at}
+use Rattle.packets.specs.Writing.{has_no_sum, respelled}
+use Rattle.packets.proofs.Bodies.{body_sent_lem}
 use Rattle.packets.proofs.writer.write_body.Goals as goal
 
-pub returns-then-is_spelled_out : goal.returns-then-is_spelled_out
-returns-then-is_spelled_out c =
-    c.put_word-then-is_spelled_out.ensures
-    ∙ spelled_steps c.args.protocol c.args.end c.args.body.now c.args.port c.args.before c.args.after c.requires.long c.requires.besides c.requires.sum
-    c.port_at-at.result c.sum_at-place.result c.word_at-old.result c.from.result c.move_sum-moved.result
-    c.put_word.new.bytes c.put_word-2.new.bytes c.has_no_sum.result c.is_spelled_out.result
-    c.port_at-at.ensures c.sum_at-place.ensures (c.from.ensures ∙ c.word_at.ensures) c.word_at-old.ensures
-    c.put_word.ensures c.has_no_sum.ensures c.if-has_no_sum.false
-    (c.move_sum-moved.ensures ∙ ap (λ q. moved c.word_at-old.result (c.args.before + c.from.result) (c.args.after + q)) c.from-2.ensures)
-    c.put_word-2.ensures c.is_spelled_out.ensures
-    c.if-is_spelled_out.true
-
-pub returns-else-is_spelled_out : goal.returns-else-is_spelled_out
-returns-else-is_spelled_out c =
-    plain_steps c.args.protocol c.args.end c.args.body.now c.args.port c.args.before c.args.after c.requires.long c.requires.besides c.requires.sum
-    c.port_at-at.result c.sum_at-place.result c.word_at-old.result c.from.result c.move_sum-moved.result
-    c.put_word.new.bytes c.put_word-2.new.bytes c.has_no_sum.result c.is_spelled_out.result
-    c.port_at-at.ensures c.sum_at-place.ensures (c.from.ensures ∙ c.word_at.ensures) c.word_at-old.ensures
-    c.put_word.ensures c.has_no_sum.ensures c.if-has_no_sum.false
-    (c.move_sum-moved.ensures ∙ ap (λ q. moved c.word_at-old.result (c.args.before + c.from.result) (c.args.after + q)) c.from-2.ensures)
-    c.put_word-2.ensures c.is_spelled_out.ensures
-    c.if-is_spelled_out.false
+pub returns : goal.returns
+returns c =
+    let p : Protocol = c.args.protocol in
+    let e : End = c.args.relocation.end in
+    let b : List ℕ = c.args.body.now in
+    let port : ℕ = c.args.relocation.endpoint.port in
+    let ported : List ℕ = put_word b (port_at p e) port in
+    let m : ℕ = c.move_sum-moved.result in
+    let s : ℕ = c.put_sum.result in
+    let there : c.put_word.new.bytes ≡ ported = rw (c.put_word.ensures, c.port_at-at.ensures) refl in
+    let old : c.word_at-old.result ≡ word_at b (sum_at p) = rw (c.word_at-old.ensures, c.sum_at.ensures) refl in
+    let m-is : m ≡ moved (word_at b (sum_at p)) (c.args.before + word_at b (port_at p e)) (c.args.after + port) =
+    rw (c.move_sum-moved.ensures, old, c.from.ensures, c.word_at.ensures, c.port_at-at.ensures, c.from-2.ensures) refl in
+    let s-is : s ≡ respelled p m (word_sum (put_word ported (sum_at p) 0)) = rw (c.put_sum.ensures.is, there) refl in
+    let put : c.put_sum.new.body ≡ put_word ported (sum_at p) s = rw (c.put_sum.ensures.put, there) refl in
+    let some : has_no_sum p b ≡ false = grind (arith, nat_tests) in
+    rw put (body_sent_lem p e b port c.args.before c.args.after c.requires.long c.requires.besides some (c.requires.sum some) m s m-is s-is)

@@ -1,53 +1,39 @@
--- Each part of a dotted address is the number that stands there, or there is none.
-use Rattle.std.proofs.Common.{◌≡◌, ◌/◌, ◌%◌, ◌≤◌, ◌∷◌, ◌++◌, decimal, sym, ap, ◌∙◌, arith}
-use Rattle.std.proofs.lemmas.Fmt.{decimal_injective}
-use Rattle.text.proofs.Dotted.{after_one, after_two, after_three, dotted_of}
+-- The library's words for an address in four parts are those of `dotted`.
+use Rattle.std.proofs.Common.{◌≡◌, ℕ, ◌+◌, ◌*◌, ◌/◌, ◌%◌, ◌^◌, ◌<◌, List, [], ◌∷◌, ◌++◌, Some, None, Ok, Err, Result, decimal, ap, ◌∙◌, append_assoc, refl, arith}
+use Rattle.std.specs.declared.net.ipv4_addr.Ipv4Addr.{Ipv4Addr}
+use Rattle.std.specs.Int.{w32, from_be_bytes}
+use Rattle.std.specs.Net.Addr.{ipv4_bits, ipv4_octets}
+use Rattle.std.specs.Net.Grammar.{IsIpv4Text, Parses}
+use Rattle.std.specs.Net.Text.{dotted_text}
+use Rattle.std.specs.Result.{result_ok}
+use Rattle.text.specs.Reading.{dotted}
 use Rattle.text.proofs.address.address.Goals as goal
 
-pub returns-in_default-number_before : goal.returns-in_default-number_before
-returns-in_default-number_before c x small whole =
-    let a = c.in-Some.ensures in
-    c.in_default-number_before.ensures (x / 65536 % 256) _ (omega arith) (after_one x small whole _ a.0 a.1).1
+-- four numbers below 256 make one address
+dotted_of : (a b c d v : ℕ) → a < 256 → b < 256 → c < 256 → d < 256 → v ≡ a * 16777216 + b * 65536 + c * 256 + d → dotted_text a b c d ≡ dotted v
+dotted_of a b c d v ha hb hc hd e =
+    let one : a ≡ v / 16777216 = omega arith in
+    let two : b ≡ v / 65536 % 256 = omega arith in
+    let three : c ≡ v / 256 % 256 = omega arith in
+    let four : d ≡ v % 256 = omega arith in
+    simp append_assoc (λ i. decimal (one i) ++ (46 ∷ (decimal (two i) ++ (46 ∷ (decimal (three i) ++ (46 ∷ decimal (four i)))))))
 
-pub returns-in_default-number_before-2 : goal.returns-in_default-number_before-2
-returns-in_default-number_before-2 c x small whole =
-    let a = c.in-Some.ensures in
-    let b = c.in-Some-number_before.ensures in
-    c.in_default-number_before-2.ensures (x / 256 % 256) _ (omega arith) (after_two x small whole _ a.0 a.1 _ b.0 b.1).1
+parsed : {E : Type 0} (text : List ℕ) (r : Result Ipv4Addr E) (a : Ipv4Addr) → Parses IsIpv4Text text r → Some a ≡ result_ok r → text ≡ dotted (ipv4_bits a)
+unfolding ipv4_bits
+parsed text (Ok b) a p e =
+    let same : a ≡ b = cc in
+    let bits : ipv4_bits a ≡ p.a * 16777216 + p.b * 65536 + p.c * 256 + p.d = ap (from_be_bytes w32) (ap ipv4_octets same ∙ p.value) in
+    p.spelled ∙ dotted_of p.a p.b p.c p.d (ipv4_bits a) p.fit.0 p.fit.1 p.fit.2 p.fit.3 bits
+parsed text (Err d) a p e = absurd (cc)
 
-pub returns-in_default-number : goal.returns-in_default-number
-returns-in_default-number c x small whole =
-    let a = c.in-Some.ensures in
-    let b = c.in-Some-number_before.ensures in
-    let d = c.in-Some-number_before-2.ensures in
-    c.in_default-number.ensures (x % 256) (omega arith) (after_three x small whole _ a.0 a.1 _ b.0 b.1 _ d.0 d.1).1
+refused : {E : Type 0} (text : List ℕ) (r : Result Ipv4Addr E) → Parses IsIpv4Text text r → None ≡ result_ok r → (x : ℕ) → x < 2 ^ 32 → text ≡ dotted x → ⊥
+refused text (Ok a) p e x small whole = absurd (cc)
+refused text (Err d) p e x small whole =
+    p (record { octets = x / 16777216 ∷ x / 65536 % 256 ∷ x / 256 % 256 ∷ x % 256 ∷ [] })
+    (record { a = x / 16777216; b = x / 65536 % 256; c = x / 256 % 256; d = x % 256; fit = (omega arith, omega arith, omega arith, omega arith); value = refl; spelled = whole ∙ simp append_assoc })
 
-pub returns-then-a-gt255 : goal.returns-then-a-gt255
-returns-then-a-gt255 c x small whole =
-    let a = c.in-Some.ensures in
-    let b = c.in-Some-number_before.ensures in
-    let d = c.in-Some-number_before-2.ensures in
-    let e = c.in-Some-number.ensures in
-    let one = after_one x small whole _ a.0 a.1 in
-    let two = after_two x small whole _ a.0 a.1 _ b.0 b.1 in
-    let three = after_three x small whole _ a.0 a.1 _ b.0 b.1 _ d.0 d.1 in
-    let four : c.in-Some-number.d ≡ x % 256 = decimal_injective _ (x % 256) e.0 (omega arith) (sym e.1 ∙ three.1) in
-    let at : c.in-Some.a ≤ 255 = omega (arith, one.0) in
-    let bt : c.in-Some-number_before.b ≤ 255 = omega (arith, two.0) in
-    let ct : c.in-Some-number_before-2.c ≤ 255 = omega (arith, three.0) in
-    let dt : c.in-Some-number.d ≤ 255 = omega (arith, four) in
-    grind (arith, c.then-a-gt255.either)
+pub returns-in_err-address : goal.returns-in_err-address
+returns-in_err-address c = rw c.from_residual.ensures (refused c.args.text.now c.parse.result c.parse.ensures.value c.in_err-address.ensures.value)
 
 pub returns : goal.returns
-returns c =
-    let a = c.in-Some.ensures in
-    let b = c.in-Some-number_before.ensures in
-    let d = c.in-Some-number_before-2.ensures in
-    let e = c.in-Some-number.ensures in (
-      omega arith,
-      a.1
-          ∙ ap (λ xs. decimal c.in-Some.a ++ (46 ∷ xs)) (b.1
-          ∙ ap (λ xs. decimal c.in-Some-number_before.b ++ (46 ∷ xs)) (d.1 ∙ ap (λ xs. decimal c.in-Some-number_before-2.c ++ (46 ∷ xs)) e.1))
-          ∙ dotted_of c.in-Some.a c.in-Some-number_before.b c.in-Some-number_before-2.c c.in-Some-number.d c.from_be_bytes.result
-          c.if-a-gt255.false c.if-b-gt255.false c.if-c-gt255.false c.if-d-gt255.false c.from_be_bytes.ensures,
-    )
+returns c = (c.to_bits.type_inv, rw c.to_bits.ensures (parsed c.args.text.now c.parse.result c.in_ok-address.address c.parse.ensures.value c.in_ok-address.ensures.value))

@@ -1,25 +1,22 @@
--- One byte more: a line feed ends the line, and any other byte makes it longer.
-use Rattle.std.proofs.Common.{◌≡◌, ℕ, suc, ◌+◌, ◌<◌, eqb, List, length, get_or, drop, ◌∙◌, arith}
-use Rattle.std.proofs.lemmas.List.{at_drop_more, at_drop_all}
-use Rattle.std.proofs.lemmas.Bool.{cond-true, cond-false, eq-eqb, ne_eqb}
+-- The place of the first line feed, or the end where there is none.
+use Rattle.std.proofs.Common.{◌≡◌, ℕ, ◌≤◌, cond, eqb, ltb, Some, None, length, rules, refl, ap, ◌∙◌, arith}
+use Rattle.std.proofs.lemmas.Bool.{cond_both, ltb-false}
+use Rattle.std.proofs.lemmas.Iterator.{YieldsList-from_slice}
+use Rattle.std.proofs.lemmas.Iterator.Search.{position_from_yields_List}
+use Rattle.std.proofs.lemmas.List.Sums.{prefix_len-le-length}
+use Rattle.std.specs.Option.{unwrap_or}
+use borrow.Author.Tests.{tests}
 use Rattle.text.specs.Lines.{line_length}
 use Rattle.text.proofs.lines.line_length.Goals as goal
 
-ends : (bs : List ℕ) (i : ℕ) → i < length bs → get_or bs i 0 ≡ 10 → line_length (drop i bs) ≡ 0
-ends bs i inside feed = at_drop_more line_length bs i 0 inside ∙ cond-true (eqb (get_or bs i 0) 10) 0 _ (eq-eqb (get_or bs i 0) 10 feed)
-
-goes_on : (bs : List ℕ) (i : ℕ) → i < length bs → (get_or bs i 0 ≡ 10 → ⊥) → line_length (drop i bs) ≡ suc (line_length (drop (i + 1) bs))
-goes_on bs i inside other = at_drop_more line_length bs i 0 inside ∙ cond-false (eqb (get_or bs i 0) 10) 0 _ (ne_eqb (get_or bs i 0) 10 other)
-
-pub returns-then-byte-eq10 : goal.returns-then-byte-eq10
-returns-then-byte-eq10 c =
-    let h = ends c.args.text.now c.loop-i.i c.loop-i-test.true c.if-byte-eq10.true in
-    record { is = omega (arith, h, c.loop-i.invariant); within = c.loop-i.auto.i-end }
-
-pub loop-i-preserved : goal.loop-i-preserved
-loop-i-preserved c = let h = goes_on c.args.text.now c.loop-i.i c.loop-i-test.true c.if-byte-eq10.false in omega (arith, h, c.loop-i.invariant)
+-- the place that was found, or else the end
+or_the_end : (n end : ℕ) → n ≤ end → unwrap_or (cond (ltb n end) (Some n) None) end ≡ n
+or_the_end n end h = cond_both (ltb n end) (Some n) None (λ o. unwrap_or o end ≡ n) (λ e. refl) (λ e. omega (arith, ltb-false n end e))
 
 pub returns : goal.returns
 returns c =
-    let h : line_length (drop c.loop-i.i c.args.text.now) ≡ 0 = at_drop_all line_length c.args.text.now c.loop-i.i c.loop-i-test.false in
-    record { is = omega (arith, h, c.loop-i.invariant); within = omega arith }
+    let text = c.args.text.now in
+    let within : line_length text ≤ length text = prefix_len-le-length _ text in
+    let found = position_from_yields_List (λ b. eqb b 10) _ _ c.position.result c.position.ensures.ran (YieldsList-from_slice text cc) (λ x b q k. search (rules, tests)) in
+    let is = c.unwrap_or.ensures ∙ ap (λ o. unwrap_or o (length text)) found ∙ or_the_end (line_length text) (length text) within in
+    record { is = is; within = omega arith }

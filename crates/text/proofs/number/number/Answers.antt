@@ -1,18 +1,14 @@
 -- What is plain is what `parse` says, and what is not plain is no decimal number.
-use Rattle.std.proofs.Common.{◌≡◌, ◌^◌, true, false, decimal, sym, ap, ◌∙◌, subst}
-use Rattle.std.proofs.lemmas.Bool.{both_ways}
-use Rattle.text.specs.Reading.{ReadsAs, IsBelow, is_plain}
-use Rattle.text.proofs.Decimal.{Plain, decimal_plain, plain_from, plain_to, reads_plain}
+use Rattle.std.proofs.Common.{decimal, arith}
+use Rattle.std.proofs.lemmas.Grind.{common_steps}
+use Rattle.text.proofs.Decimal.{decimal_plain, plain_from, plain_to, reads_plain}
 use Rattle.text.proofs.number.number.Goals as goal
 
 pub returns-then-not-is_plain : goal.returns-then-not-is_plain
-returns-then-not-is_plain c n small same =
-    let bs = c.args.text.now in
-    let not : is_plain bs ≡ false = ap is_plain (sym c.as_bytes.ensures.value) ∙ sym c.if-not-is_plain.ensures in
-    both_ways (is_plain bs) not (plain_to bs (subst Plain (sym same) (decimal_plain n small)))
+returns-then-not-is_plain c n small same = let plain = plain_to (decimal n) (decimal_plain n small) in grind (arith, common_steps)
 
 pub returns : goal.returns
 returns c =
     let bs = c.args.text.now in
-    let plain : is_plain bs ≡ true = ap is_plain (sym c.as_bytes.ensures.value) ∙ sym c.if-not-is_plain.ensures in
-    subst (ReadsAs decimal (IsBelow (2 ^ 64)) bs) (sym c.ok.ensures.value) (reads_plain bs c.parse.result c.parse.ensures.value.0 (plain_from bs plain))
+    let read = reads_plain bs c.parse.result c.parse.ensures.value.0 (plain_from bs (grind (arith, common_steps))) in
+    grind (arith, common_steps)

@@ -5,16 +5,17 @@ use Rattle.text.proofs.Decimal.{no_other}
 use Rattle.text.proofs.Separated.{none_before, not_before, read_before}
 use Rattle.text.proofs.number.number_before.Goals as goal
 
-pub returns-in_default : goal.returns-in_default
-returns-in_default c =
-    none_before decimal (IsBelow (2 ^ 64)) c.args.separator (omega (arith, c.requires)) (λ n small. no_other n c.args.separator small c.requires) c.args.text.now c.in_default.ensures.cases
+pub returns-in_err-front : goal.returns-in_err-front
+returns-in_err-front c =
+    rw c.from_residual.ensures (none_before decimal (IsBelow (2 ^ 64)) c.args.separator (omega (arith, c.requires)) (λ n small. no_other n c.args.separator small c.requires) c.args.text.now c.in_err-front.ensures.cases)
 
-pub returns-in_default-number : goal.returns-in_default-number
-returns-in_default-number c =
-    not_before decimal (IsBelow (2 ^ 64)) c.args.separator (omega (arith, c.requires)) (λ n small. no_other n c.args.separator small c.requires) c.args.text.now
-    c.in-Some.front c.in-Some.rest c.in-Some.ensures.cases c.in_default-number.ensures
+pub returns-in_err-number : goal.returns-in_err-number
+returns-in_err-number c =
+    rw c.from_residual-in_err-number.ensures
+    (not_before decimal (IsBelow (2 ^ 64)) c.args.separator (omega (arith, c.requires)) (λ n small. no_other n c.args.separator small c.requires) c.args.text.now
+    c.in_ok-front.front c.in_ok-front.rest c.in_ok-front.ensures.cases c.in_err-number.ensures)
 
 pub returns : goal.returns
 returns c =
     read_before decimal (IsBelow (2 ^ 64)) c.args.separator (omega (arith, c.requires)) (λ n small. no_other n c.args.separator small c.requires) c.args.text.now
-    c.in-Some.front c.in-Some.rest c.in-Some-number.n c.in-Some.ensures.cases c.in-Some-number.ensures
+    c.in_ok-front.front c.in_ok-front.rest c.in_ok-number.field-0 c.in_ok-front.ensures.cases c.in_ok-number.ensures

@@ -1,5 +1,6 @@
 -- A question is written in ASCII, so what is no text is no question.
-use Rattle.std.proofs.Common.{ℕ, ◌/◌, ◌%◌, ◌^◌, ◌<◌, List, ◌∷◌, ◌++◌, codes, IsUtf8, IsAscii, decimal, sym, subst, arith, rules}
+use Rattle.std.proofs.Common.{◌≡◌, ℕ, ◌/◌, ◌%◌, ◌^◌, ◌<◌, List, ◌∷◌, ◌++◌, None, Ok, Err, Result, Bor, codes, IsUtf8, IsAscii, decimal, sym, subst, arith, rules}
+use Rattle.std.specs.Result.{MatchResult, result_ok}
 use Rattle.std.proofs.lemmas.Str.Ascii.{IsAscii-cons}
 use Rattle.std.proofs.ByRecursion.{IsAscii-from_all}
 use Rattle.std.proofs.lemmas.Fmt.{IsAscii-decimal}
@@ -29,5 +30,9 @@ asked_ascii q ok =
     let port = then q.port 32 behind (omega (arith, ok.port)) (omega arith) (when_ascii q.when ok.when) in
     IsAscii-append (dotted q.address) _ (dotted_ascii q.address ok.address) (IsAscii-cons 32 _ (omega arith) port)
 
-pub returns-in_default : goal.returns-in_default
-returns-in_default c q ok e = c.in_default.ensures.cases.0 (subst IsUtf8 (sym e) (IsUtf8-from_ascii (asked q) (asked_ascii q ok)))
+not_text : {E : Type 0} (line : List ℕ) (r : Result (Bor (List ℕ)) E) (P : E → Type 0) → MatchResult r (λ s. (s.now ≡ line) × IsUtf8 line) (λ e. ¬ (IsUtf8 line) × P e) → None ≡ result_ok r → ¬ (IsUtf8 line)
+not_text line (Ok s) P h e = absurd (cc)
+not_text line (Err d) P h e = h.0
+
+pub returns-in_err-text : goal.returns-in_err-text
+returns-in_err-text c = rw c.from_residual.ensures (λ q ok e. not_text c.args.line.now c.from_utf8.result _ c.from_utf8.ensures.cases c.in_err-text.ensures.value (subst IsUtf8 (sym e) (IsUtf8-from_ascii (asked q) (asked_ascii q ok))))

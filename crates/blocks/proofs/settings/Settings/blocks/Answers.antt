@@ -1,7 +1,0 @@
--- A block has ports.
-use Rattle.std.proofs.Common.{arith}
-use Rattle.blocks.proofs.Limits.{known}
-use Rattle.blocks.proofs.settings.Settings.blocks.Goals as goal
-
-pub nonzero_div-result : goal.nonzero_div-result
-nonzero_div-result c = omega (arith, (known c.args.self.now).smallest)

@@ -1,7 +1,0 @@
--- The bytes passed so far are no line feeds, so what is left tells the length.
-use Rattle.std.proofs.Common.{◌≡◌, ◌+◌, drop}
-use Rattle.text.specs.Lines.{line_length}
-use Rattle.text.proofs.lines.line_length.Given as goal
-
-abbrev pub invariant-loop-i : goal.invariant-loop-i
-invariant-loop-i l = line_length l.text ≡ l.i + line_length (drop l.i l.text)

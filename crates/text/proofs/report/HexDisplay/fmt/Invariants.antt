@@ -1,0 +1,14 @@
+-- What is written so far, and the digits of what is left, make up the whole.
+use Rattle.std.proofs.Common.{◌≡◌, ℕ, List, ◌++◌}
+use Rattle.std.specs.Fmt.{HasWritten, IsPlainFormatter}
+use Rattle.std.specs.Slice.Iter.{chunks_rest, chunks_size}
+use Rattle.text.specs.Reports.{hex_text}
+use Rattle.text.proofs.report.HexDisplay.fmt.Given as goal
+
+abbrev pub invariant-loop-bytes : goal.invariant-loop-bytes
+invariant-loop-bytes g l =
+    (goal.iterator-loop-bytes g).can_next l.bytes-iterator
+    × (goal.iterator-loop-bytes g).is_finite l.bytes-iterator
+    × (chunks_size l.bytes-iterator ≡ 256)
+    × (IsPlainFormatter l.initial.f → (done : List ℕ) × HasWritten g.W.Write.write_str_gives l.initial.f done l.f
+    × (done ++ hex_text (chunks_rest l.bytes-iterator) ≡ hex_text l.fn.self.0.now))
