@@ -13,7 +13,7 @@ pub enum Line<'a> {
         moment: u64,
         cause: Refusal,
     },
-    // a packet that leaves: `out`, `in` or `turned`, and all its bytes; any word is taken, as it was promised
+    // a packet that leaves: `out`, `in` or `turned`, and all its bytes; a word and no enum, so that callers may give any
     Packet {
         moment: u64,
         way: &'a str,
