@@ -8,7 +8,7 @@ use Rattle.packets.specs.declared.facts.End.TheVariants.{Source, Destination}
 use Rattle.packets.specs.declared.facts.Endpoint.{Endpoint}
 use Rattle.packets.specs.declared.facts.Facts.{Facts}
 use Rattle.packets.specs.Fields.{header_of, body_of, header_sum_at, ttl_at, address_at, opposite, port_at, sum_at}
-use Rattle.packets.specs.Reading.{read_of}
+use Rattle.packets.specs.Reading.{admitted_in, destination_in, read_of, source_in}
 use Rattle.packets.specs.Writing.{besides, has_no_sum, sent, respelled}
 use Rattle.packets.specs.Laws.{FreshSums, is_touched, within}
 use Rattle.errors.specs.declared.notice.Quote.{Quote}
@@ -16,7 +16,7 @@ use Rattle.errors.specs.declared.notice.Notice.{Notice}
 use Rattle.errors.specs.Messages.{Message}
 use Rattle.packets.specs.declared.facts.Reading.TheVariants.{Packet, Error}
 use Rattle.errors.specs.Quotes.{quote_in}
-use Rattle.errors.specs.Messages.{message_in}
+use Rattle.errors.specs.Messages.{admitted_message, heading_of, message_destination, message_in, message_source}
 use Rattle.errors.specs.Requoting.{has_sum, left, message_sum_at}
 use Rattle.errors.specs.Relocating.{relocated_heading, relocated_message}
 
@@ -112,3 +112,9 @@ ThereAndBack =
     (bs error : List ℕ) (f : Facts) (x : Notice) (hops hops_back : ℕ) (e : End) (n : Endpoint) → Bytes bs →
     read_of bs ≡ Ok (Packet f) → message_in error ≡ Ok (Error x) → Quotes (quote_in error) (sent hops f.protocol e n bs) →
     Returned f x hops_back e bs error (left hops_back (Error x) (opposite e) (end_at e f) error)
+
+-- 6. What the methods of a reading say of a message: a packet's own addresses and time to live count, and of an error those of its own header.
+abbrev pub MessagesAreHeaded : Type 0
+MessagesAreHeaded =
+    (m : Message) →
+    (source_in heading_of m ≡ message_source m) × ((destination_in heading_of m ≡ message_destination m) × (admitted_in heading_of m ≡ admitted_message m))

@@ -1,10 +1,11 @@
 -- What is read of a message, a packet or an error, or why it is refused.
-use Rattle.std.specs.Prelude.{ℕ, List, Ok, Err, Result}
+use Rattle.std.specs.Prelude.{ℕ, cond, List, Ok, Err, Result, nat_le}
 use Rattle.blocks.specs.declared.refusal.Refusal.{Refusal}
+use Rattle.blocks.specs.declared.refusal.Refusal.TheVariants.{Expired}
 use Rattle.packets.specs.declared.facts.Heading.{Heading}
 use Rattle.packets.specs.declared.facts.Reading.{Reading}
 use Rattle.packets.specs.declared.facts.Reading.TheVariants.{Packet, Error}
-use Rattle.packets.specs.Reading.{admitted_in, destination_in, heading_in, read_of, source_in}
+use Rattle.packets.specs.Reading.{read_of}
 use Rattle.errors.specs.declared.notice.Quote.{Quote}
 use Rattle.errors.specs.declared.notice.Notice.{Notice}
 use Rattle.errors.specs.Quotes.{quote_in, quoted_in}
@@ -23,19 +24,22 @@ with_quote (Err r) q = Err r
 unfoldable pub message_in : List ℕ → Result Message Refusal
 message_in bs = with_quote (read_of bs) (quoted_in (quote_in bs))
 
--- where an error's heading was read
+-- where an error's own heading was read
 abbrev pub heading_of : Notice → Heading
 heading_of x = x.heading
 
 abbrev pub message_source : Message → ℕ
-message_source m = source_in heading_of m
+message_source (Packet f) = f.source.address
+message_source (Error x) = x.heading.source
 
 abbrev pub message_destination : Message → ℕ
-message_destination m = destination_in heading_of m
+message_destination (Packet f) = f.destination.address
+message_destination (Error x) = x.heading.destination
 
 abbrev pub message_ttl : Message → ℕ
-message_ttl m = (heading_in heading_of m).ttl
+message_ttl (Packet f) = f.ttl
+message_ttl (Error x) = x.heading.ttl
 
 -- a message goes on, unless its time to live is used up
 abbrev pub admitted_message : Message → Result Message Refusal
-admitted_message m = admitted_in heading_of m
+admitted_message m = cond (nat_le (message_ttl m) 1) (Err Expired) (Ok m)

@@ -1,5 +1,5 @@
 // The theorems about messages, each the contract of a function.
-ghost use Rattle.errors.specs.Laws.{OthersStay, OwnSumsAreFresh, QuotedSumsStayRight, ReadAgain, ThereAndBack};
+ghost use Rattle.errors.specs.Laws.{MessagesAreHeaded, OthersStay, OwnSumsAreFresh, QuotedSumsStayRight, ReadAgain, ThereAndBack};
 
 // What is written can be read again, with fresh sums, and nothing else was changed.
 pub fn written_messages_are_right()
@@ -16,4 +16,9 @@ pub fn quoted_sums_stay_right()
 // An error that quotes a packet which left comes back as one about the packet that had come.
 pub fn quotes_come_back()
     ensures { ThereAndBack }
+{}
+
+// Where a message comes from, where it goes to, and whether it may go on is what its own header says, packet or error.
+pub fn messages_are_headed()
+    ensures { MessagesAreHeaded }
 {}

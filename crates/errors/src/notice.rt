@@ -1,4 +1,6 @@
 // What is read of an error and of the packet that it quotes.
+ghost use Rattle.errors.specs.Messages.{heading_of};
+
 use mappings::event::Protocol;
 use packets::admission::Headed;
 use packets::facts::{Endpoint, Heading, Reading};
@@ -19,7 +21,7 @@ pub struct Notice {
 }
 
 impl Headed for Notice {
-    ghost heading = { λ x. x.heading };
+    ghost heading = { heading_of };
 
     fn heading(self) -> Heading {
         self.heading

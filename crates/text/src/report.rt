@@ -1,5 +1,5 @@
 // What the programs print, as text.
-ghost use Rattle.std.specs.Prelude.{◌≡◌, ◌≤◌, length, IfOk, Some};
+ghost use Rattle.std.specs.Prelude.{◌≡◌, ◌≤◌, length, Some};
 ghost use Rattle.text.specs.Reports.{hex_text, line_text, names_text};
 
 use blocks::refusal::Refusal;
@@ -97,13 +97,13 @@ impl fmt::Display for Names<'_> {
 pub struct Hex<'a>(pub &'a [u8]);
 
 // The digits of some bytes, written into `room`.
-fn digits<'a>(bytes: &[u8], room: &'a mut [u8; 512]) -> Result<&'a str, fmt::Error>
+fn digits<'a>(bytes: &[u8], room: &'a mut [u8; 512]) -> &'a str
     requires { length bytes.now ≤ 256 }
-    ensures { IfOk result (λ text. text.now ≡ hex_text bytes.now) }
+    ensures { result.now ≡ hex_text bytes.now }
 {
     let digits = &mut room[..2 * bytes.len()];
-    hex::encode_to_slice(bytes, digits).map_err(|_| fmt::Error)?;
-    str::from_utf8(digits).map_err(|_| fmt::Error)
+    hex::encode_to_slice(bytes, digits).unwrap();
+    str::from_utf8(digits).unwrap()
 }
 
 impl fmt::Display for Hex<'_> {
@@ -113,7 +113,7 @@ impl fmt::Display for Hex<'_> {
         // many bytes at a time: with a write for each, a packet takes three times as long
         let mut room = [0; 512];
         for bytes in self.0.chunks(256) {
-            f.write_str(digits(bytes, &mut room)?)?;
+            f.write_str(digits(bytes, &mut room))?;
         }
         Ok(())
     }

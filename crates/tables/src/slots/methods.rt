@@ -21,7 +21,8 @@ fn let_go(slots: &mut [Option<Mapping>], tick: u32, settings: &Settings)
     ensures { slots.new ≡ map (kept_in (config settings.now) tick) slots.old }
 {
     for slot in slots.iter_mut() {
-        *slot = slot.filter(|mapping| mapping.is_kept(tick, settings));
+        // most slots stay, so none is written but those whose mapping goes
+        let _ = slot.take_if(|mapping| !mapping.is_kept(tick, settings));
     }
 }
 

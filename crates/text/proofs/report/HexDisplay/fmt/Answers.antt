@@ -17,8 +17,8 @@ loop-bytes-preserved g c =
       steps.0 ∙ c.loop-bytes.invariant.2,
       λ plain.
           let so_far = c.loop-bytes.invariant.3 plain in (
-            so_far.0 ++ c.in_ok-digits.field-0.now,
+            so_far.0 ++ c.digits.result.now,
             has_written_append _ _ _ _ _ _ so_far.1 (c.in_ok-write_str.ensures.writes so_far.1.plain refl),
-            append_assoc so_far.0 _ _ ∙ ap (λ t. so_far.0 ++ t) (rw c.in_ok-digits.ensures (chunk_first _ _ _ steps.1.0)) ∙ so_far.2,
+            append_assoc so_far.0 _ _ ∙ ap (λ t. so_far.0 ++ t) (rw c.digits.ensures (chunk_first _ _ _ steps.1.0)) ∙ so_far.2,
           ),
     )
