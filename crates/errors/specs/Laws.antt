@@ -8,15 +8,14 @@ use Rattle.packets.specs.declared.facts.End.TheVariants.{Source, Destination}
 use Rattle.packets.specs.declared.facts.Endpoint.{Endpoint}
 use Rattle.packets.specs.declared.facts.Facts.{Facts}
 use Rattle.packets.specs.Fields.{header_of, body_of, header_sum_at, ttl_at, address_at, opposite, port_at, sum_at}
-use Rattle.packets.specs.Reading.{admitted_in, destination_in, read_of, source_in}
+use Rattle.packets.specs.Reading.{admitted_in, destination_in, heading_in, read_of, source_in}
 use Rattle.packets.specs.Writing.{besides, has_no_sum, sent, respelled}
 use Rattle.packets.specs.Laws.{FreshSums, is_touched, within}
 use Rattle.errors.specs.declared.notice.Quote.{Quote}
 use Rattle.errors.specs.declared.notice.Notice.{Notice}
-use Rattle.errors.specs.Messages.{Message}
 use Rattle.packets.specs.declared.facts.Reading.TheVariants.{Packet, Error}
 use Rattle.errors.specs.Quotes.{quote_in}
-use Rattle.errors.specs.Messages.{admitted_message, heading_of, message_destination, message_in, message_source}
+use Rattle.errors.specs.Messages.{Message, admitted_message, heading_of, message_destination, message_in, message_source, message_ttl}
 use Rattle.errors.specs.Requoting.{has_sum, left, message_sum_at}
 use Rattle.errors.specs.Relocating.{relocated_heading, relocated_message}
 
@@ -117,4 +116,5 @@ ThereAndBack =
 abbrev pub MessagesAreHeaded : Type 0
 MessagesAreHeaded =
     (m : Message) →
-    (source_in heading_of m ≡ message_source m) × ((destination_in heading_of m ≡ message_destination m) × (admitted_in heading_of m ≡ admitted_message m))
+    (source_in heading_of m ≡ message_source m) × ((destination_in heading_of m ≡ message_destination m) ×
+    (((heading_in heading_of m).ttl ≡ message_ttl m) × (admitted_in heading_of m ≡ admitted_message m)))

@@ -24,7 +24,7 @@ with_quote (Err r) q = Err r
 unfoldable pub message_in : List ℕ → Result Message Refusal
 message_in bs = with_quote (read_of bs) (quoted_in (quote_in bs))
 
--- where an error's own heading was read
+-- the heading of an error itself, and not that of its quote
 abbrev pub heading_of : Notice → Heading
 heading_of x = x.heading
 

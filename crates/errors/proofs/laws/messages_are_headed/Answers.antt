@@ -5,8 +5,8 @@ use Rattle.errors.specs.Laws.{MessagesAreHeaded}
 use Rattle.errors.proofs.laws.messages_are_headed.Goals as goal
 
 headed : MessagesAreHeaded
-headed (Packet f) = (refl, (refl, refl))
-headed (Error x) = (refl, (refl, refl))
+headed (Packet f) = (refl, (refl, (refl, refl)))
+headed (Error x) = (refl, (refl, (refl, refl)))
 
 pub returns : goal.returns
 returns c = headed
